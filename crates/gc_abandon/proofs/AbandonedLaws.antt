@@ -243,7 +243,7 @@ give_up_failed g a b m n u c fine ok usable told some never done = by (folds m.o
   where
     by : (f : Bool) → folds m.operation u ≡ f → StoreDoes g c a m b n ok
     by false is = absurd (some is)
-    by true is = only_crash never (λ v image l. let w = (done is).crash v image l in (w.0, still_before (disks_next (disks (store_content g a)) (store_shape g a m) c) _ (might_show g usable told) w.1))
+    by true is = only_crash never (λ v image l. let w = (done is).crash v image l in (w.0, still_before (disks_next (disks (store_content g a)) (store_shape g a m) c) _ (might_show g usable told) w.1)) (done is).logged
 
 -- ---- a fork, whose base has the number from before
 
@@ -271,8 +271,8 @@ module _ {S : Type 0} {g : Ghosts S} {u : List ℕ} {a b : S} {m k : Memory} (w 
     where
       known_is : known k ≡ record (known m) { op = k.operation }
       known_is =
-          ap₂ (λ (t : Tree) (ps : List (Option Record)). let x : Known = record { rows = t.rows; places = ps; attached = k.attached; op = k.operation } in x) others.0 others.1
-          ∙ ap (λ (y : Attached). let x : Known = record { rows = m.tree.rows; places = m.records; attached = y; op = k.operation } in x) others.2
+          ap₂ (λ (t : Tree) (ps : List (Option Record)). let x : Known = record { rows = t.rows; places = ps; logs = []; attached = k.attached; op = k.operation } in x) others.0 others.1
+          ∙ ap (λ (y : Attached). let x : Known = record { rows = m.tree.rows; places = m.records; logs = []; attached = y; op = k.operation } in x) others.2
 
       by : (f : Bool) → folds m.operation u ≡ f → IsOrderly (g.site b) (record (tab g b) { sequence = number }) (known k)
       by false is =

@@ -202,7 +202,7 @@ module _ {s : Site} {t : VolumeTable} {m : Known} {x : Op} {change : Change} (h 
       (ready_rested s t next m x (extents_entry s t next m h.orderly entered_next) old ready
       (below_alike (content_now s t old) (content_now s next (at_rest (reads old))) x refl refl
       (λ n _. image_entry s t next m then (reads old) h.orderly orderly_next entered_next.same n) (h.below old ready)))
-      might commit (disks_entry s t next m then (reads old) h.orderly orderly_next entered_next.same)
+      might commit (disks_entry s t next m then (reads old) h.orderly orderly_next entered_next.same) refl
 
 -- ---- in a store
 
@@ -263,5 +263,6 @@ module _ {S : Type 0} (g : Ghosts S) (a : S) (m : Memory) {x : Op} {change : Cha
   pub failed_end : IsTold g a m → {b : S} (n : Memory) (ok : Type 0) → (ok → ⊥) → FailsToCommit g a b
       → ((v : VolumeTable) (image : ℕ → List ℕ) → g.leaves b v image → IsEitherOf (stored g a) change v image)
       → HasDone (g.site a) (tab g a) (tab g b) (g.area a) (g.area b) (known n) (StoreLeaves g a) (StoreLeaves g b) ok (disks (store_content g a))
-  failed_end k {b} n ok never fails stop = only_crash never (done_next h (g.area a) (g.area b) (StoreLeaves g a) (StoreLeaves g b) ok k.ready (λ image at. inr (k.told, k.usable, at))
-      (commit_failed g change ok never refl refl k.told fails stop)).crash
+  failed_end k {b} n ok never fails stop =
+      let done = done_next h (g.area a) (g.area b) (StoreLeaves g a) (StoreLeaves g b) ok k.ready (λ image at. inr (k.told, k.usable, at)) (commit_failed g change ok never refl refl k.told fails stop) in
+      only_crash never done.crash done.logged

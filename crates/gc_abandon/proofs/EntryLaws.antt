@@ -8,20 +8,21 @@ use Rattle.sm_base.specs.Kinds.{is_entry, is_image, is_log}
 use Rattle.sm_base.specs.Names.{base_uuid, name_cmp}
 use Rattle.sm_base.proofs.OrderLemmas.{name_cmp_total}
 use Rattle.sm_base.specs.declared.names.Name.{Name}
-use Rattle.sm_base.specs.declared.names.Name.TheVariants.{Mgt, Vhd, Raw}
+use Rattle.sm_base.specs.declared.names.Name.TheVariants.{Mgt, Vhd, Raw, Cbt}
 use Rattle.sm_machine.specs.Operations.{Op}
 use Rattle.sm_machine.specs.Operations as op
 use Rattle.sm_disk.specs.Held.{Held, reads}
 use Rattle.vg_meta.specs.Tables.{IsTable, IsVolume, Row, VolumeTable, extents_of, names_of, rows}
 use Rattle.vg_volumes.specs.Sites.{Site}
 use Rattle.vg_volumes.specs.Volumes.{piece, volume}
-use Rattle.common_laws.specs.Lists.{In}
+use Rattle.common_laws.specs.Lists.{In, ◌>>=◌}
 use Rattle.common_laws.proofs.Lists.{In-filter, In-map, filter-In}
 use Rattle.sm_machine.specs.Shapes.{ImageRow, Shape, find_image, image_uuid, last_sequence, refs}
 use Rattle.sm_machine.specs.WellFormed.{IsChild, IsOperation, IsWellFormed, is_image_name, table_length}
 use Rattle.sm_record.specs.Records.{reading}
-use Rattle.sm_standing.specs.Checks.{has_twin, images as table_images, is_misnamed}
+use Rattle.sm_standing.specs.Checks.{has_twin, is_misnamed}
 use Rattle.sm_standing.specs.Contents.{Content, record_of, sectors_of}
+use Rattle.sm_standing.specs.Logs.{log_at, log_read}
 use Rattle.sm_standing.specs.Entries.{are_past, is_past, is_there, is_visible, names_in, of_row, uuids_in}
 use Rattle.sm_standing.specs.Images.{image_of}
 use Rattle.sm_standing.specs.Ordered.{Rising}
@@ -84,6 +85,26 @@ rising_kept test (n ∷ ns) h = by (test n) (rising_kept test ns h.1)
     by : (b : Bool) → Rising name_cmp (filter test ns) → Rising name_cmp (cond b (n ∷ filter test ns) (filter test ns))
     by true rest = (λ x i. h.0 x (In-filter test ns x i).0, rest)
     by false rest = rest
+
+names_within : (test : Name → Bool) (a b : VolumeTable) → ((n : Name) → test n ≡ true → rows a n ≡ rows b n) → (n : Name) → In n (names_in a test) → In n (names_in b test)
+names_within test a b same n i =
+    let w = In-filter test (names_of a.volumes) n i in
+    let f = named_found a.volumes n w.0 in
+    let there : rows b n ≡ Some f.0 = sym (same n w.1) ∙ f.1 in
+    filter-In test (names_of b.volumes) n
+    (subst (λ x. In x (names_of b.volumes)) (row_of-name b.volumes n f.0 there) (In-names b.volumes f.0 (row_of-In b.volumes n f.0 there).0)) w.1
+
+-- two tables that have the same volumes of a kind have as many of it
+pub as_many : (test : Name → Bool) (count : ℕ) (a b : VolumeTable) → IsTable count a → IsTable count b → ((n : Name) → test n ≡ true → rows a n ≡ rows b n)
+    → length (filter (λ (r : Row). test r.name) a.volumes) ≡ length (filter (λ (r : Row). test r.name) b.volumes)
+as_many test count a b a_table b_table same =
+    counted test a.volumes
+    ∙ ap (λ ns. length ns) (rising_ext name_cmp name_cmp_total (names_in a test) (names_in b test) (rising_in a a_table) (rising_in b b_table)
+    (names_within test a b same) (names_within test b a (λ n is. sym (same n is))))
+    ∙ sym (counted test b.volumes)
+  where
+    rising_in : (x : VolumeTable) → IsTable count x → Rising name_cmp (names_in x test)
+    rising_in x table = rising_kept test (names_of x.volumes) (rising_names (names_of x.volumes) table.volumes.rising)
 
 -- a new volume is an image's
 pub fresh_image : (r : Row) → IsVolume r → r.fresh ≡ true → is_image r.name ≡ true
@@ -245,26 +266,6 @@ module _ (s : Site) (t u : VolumeTable) (m : Known) (o : IsOrderly s t m) (e : I
   there_same : (n : Name) → is_image n ≡ true → is_there u n ≡ is_there t n
   there_same n image = ap is_some (image_row n image)
 
-  -- ---- as many images
-
-  names_within : (a b : VolumeTable) → ((n : Name) → is_image n ≡ true → rows a n ≡ rows b n) → (n : Name) → In n (names_in a is_image) → In n (names_in b is_image)
-  names_within a b same n i =
-      let w = In-filter is_image (names_of a.volumes) n i in
-      let f = named_found a.volumes n w.0 in
-      let there : rows b n ≡ Some f.0 = sym (same n w.1) ∙ f.1 in
-      filter-In is_image (names_of b.volumes) n
-      (subst (λ x. In x (names_of b.volumes)) (row_of-name b.volumes n f.0 there) (In-names b.volumes f.0 (row_of-In b.volumes n f.0 there).0)) w.1
-
-  rising_in : (a : VolumeTable) → IsTable s.count a → Rising name_cmp (names_in a is_image)
-  rising_in a table = rising_kept is_image (names_of a.volumes) (rising_names (names_of a.volumes) table.volumes.rising)
-
-  as_many : length (table_images u) ≡ length (table_images t)
-  as_many =
-      counted is_image u.volumes
-      ∙ ap (λ ns. length ns) (rising_ext name_cmp name_cmp_total (names_in u is_image) (names_in t is_image) (rising_in u e.table) (rising_in t o.table)
-      (names_within u t image_row) (names_within t u (λ n image. sym (image_row n image))))
-      ∙ sym (counted is_image t.volumes)
-
   -- ---- the names of new volumes
 
   twin_same : (n : Name) → has_twin u n ≡ has_twin t n
@@ -318,9 +319,13 @@ module _ (s : Site) (t u : VolumeTable) (m : Known) (o : IsOrderly s t m) (e : I
       table = e.table;
       few_extents = o.few_extents;
       record_volume = ap (λ v. length (extents_of v)) (e.same Mgt refl) ∙ o.record_volume;
-      few = omega (arith, as_many, o.few);
+      few = omega (arith, as_many is_image s.count u t e.table o.table image_row, o.few);
       new_named = named;
       images = λ n image. ap row_face (image_row n image) ∙ o.images n image;
+      logs = λ d. ap row_face (e.same (Cbt d) refl) ∙ o.logs d;
+      few_logs = o.few_logs;
+      logs_in_order = o.logs_in_order;
+      log_room = o.log_room;
       places = o.places;
       entries = entries;
       stands = o.stands;
@@ -341,18 +346,25 @@ tidy_entry s t u m x e tidy = record { none_new = λ r i. by r i r.fresh refl; n
 
 -- ---- what is held
 
--- the volumes of images and of the records have the same extents
+-- the volumes of images and of the records have the same extents, and those of logs are the same
 pub record HasSameExtents (t u : VolumeTable) (m : Known) : Type 0 where
   pub images : (r : TreeRow) → In r m.rows → extents_of (rows u (row_name r)) ≡ extents_of (rows t (row_name r))
   pub records : extents_of (rows u Mgt) ≡ extents_of (rows t Mgt)
+  pub logs : (v : List ℕ) → rows u (Cbt v) ≡ rows t (Cbt v)
 
 pub extents_entry : (s : Site) (t u : VolumeTable) (m : Known) → IsOrderly s t m → IsReentered s t u → HasSameExtents t u m
 extents_entry s t u m o e = record {
   images = λ r i. ap extents_of (e.same (row_name r) (image-no_entry (row_name r) (image_named (row_name r) (named_row s t m r o i))));
   records = ap extents_of (e.same Mgt refl);
+  logs = λ v. e.same (Cbt v) refl;
 }
 
 module _ (s : Site) (t u : VolumeTable) (m : Known) (x : Op) (h : HasSameExtents t u m) where
+  -- the logs on an area are the same
+  logs_entry : (image : ℕ → List ℕ) (v : List ℕ) → log_at (content_in s u image) v ≡ log_at (content_in s t image) v
+  unfolding log_at sectors_of
+  logs_entry image v = ap (λ (o : Option Row). o >>= (λ r. cond r.fresh None (log_read v (length r.extents) (piece s.geometry.extent (extents_of o) image)))) (h.logs v)
+
   -- what is ready is so under the other table, on the same area
   pub ready_entry : (area : Held) → IsReady s t area m → IsBelow (content_now s u area) x → IsReady s u area (record m { op = x })
   unfolding shape_in
@@ -365,12 +377,14 @@ module _ (s : Site) (t u : VolumeTable) (m : Known) (x : Op) (h : HasSameExtents
     };
     records = subst (λ es. Agrees (volume s.geometry.extent es area) m.places) (sym h.records) ready.records;
     recorded = subst (λ es. IsQuiet (volume s.geometry.extent es area)) (sym h.records) ready.recorded;
+    logs = λ v. logs_entry (reads area) v ∙ ready.logs v;
+    logged = λ v. subst (λ es. IsQuiet (volume s.geometry.extent es area)) (sym (ap extents_of (h.logs v))) (ready.logged v);
   }
 
   -- and on what a read gave, with nothing pending
   pub ready_rested : (old : Held) → IsReady s t old m → IsBelow (content_now s u (at_rest (reads old))) x → IsReady s u (at_rest (reads old)) (record m { op = x })
   ready_rested old ready below = ready_rest s t u old m (record m { op = x }) ready (λ r i. record { row = r; there = i; image = refl; extents = refl; same = h.images r i }) h.records refl
-      (volume_rested s u (reads old)) below
+      (λ v. logs_entry (reads old) v ∙ ready.logs v) (volume_rested s u (reads old)) below
 
 -- ---- what is shown
 

@@ -9,7 +9,7 @@ use Rattle.sm_base.specs.Kinds.{is_image, is_entry}
 use Rattle.sm_base.specs.Numbers.{thin, first}
 use Rattle.sm_base.proofs.NumberLemmas.{le-div_up}
 use Rattle.sm_base.specs.declared.names.Name.{Name}
-use Rattle.sm_base.specs.declared.names.Name.TheVariants.{Mgt, Vhd}
+use Rattle.sm_base.specs.declared.names.Name.TheVariants.{Mgt, Vhd, Cbt}
 use Rattle.sm_machine.specs.Operations.{Op}
 use Rattle.sm_machine.specs.Operations as op
 use Rattle.sm_base.specs.declared.sizes.Geometry.{Geometry}
@@ -41,6 +41,7 @@ use Rattle.sm_ready.specs.Orderly.{IsOrderly, IsRoomyIn}
 use Rattle.sm_ready.specs.Ready.{IsTidy, is_written_as, is_written_in}
 use Rattle.sm_ready.proofs.FitLaws.{fits_orderly}
 use Rattle.sm_ready.proofs.FreshLaws.{raised_well}
+use Rattle.sm_ready.proofs.LogRows.{image_apart}
 use Rattle.sm_ready.proofs.MapLaws.{top_alike}
 use Rattle.sm_ready.proofs.Orders.{HasHead, filled_face, vhd_row}
 use Rattle.sm_ready.proofs.RowLaws.{tree_found}
@@ -227,6 +228,10 @@ module _ (s : Site) (t : VolumeTable) (m : Known) (u : List ℕ) (to : ℕ) (row
     images = λ n image. ⊎_elim
         (λ is. ap (λ x. row_face (rows cut x)) is ∙ ap row_face cut_own ∙ face ∙ sym (ap tree_face (turned_same (Vhd u) to m.rows row h.found)) ∙ sym (ap (λ x. tree_face (tree_row after.rows x)) is))
         (λ other. ap row_face (cut_other n other) ∙ h.orderly.images n image ∙ sym (ap tree_face (turned_other (Vhd u) to m.rows n other))) (named_or_not n (Vhd u));
+    logs = λ d. ap row_face (cut_other (Cbt d) (image_apart (Vhd u) refl d)) ∙ h.orderly.logs d;
+    few_logs = h.orderly.few_logs;
+    logs_in_order = h.orderly.logs_in_order;
+    log_room = h.orderly.log_room;
     places = h.orderly.places;
     entries = ap (λ ns. filter is_entry ns) cut_names ∙ h.orderly.entries;
     stands = λ r i. stands_in r (In-turned (Vhd u) to m.rows r i);

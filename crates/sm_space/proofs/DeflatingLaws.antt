@@ -1,6 +1,6 @@
 -- The volume of an image is cut, as a run of two calls: what it asks, what is known at its end, and why each moment is fine.
 use Rattle.std.proofs.Common.{◌≡◌, ◌≢◌, inr, ℕ, ◌*◌, ◌<◌, ◌≤◌, false, List, take, drop, Option, refl, sym, ap, ap₂, ◌∙◌, subst, subst₂}
-use Rattle.sm_base.specs.declared.names.Name.TheVariants.{Vhd}
+use Rattle.sm_base.specs.declared.names.Name.TheVariants.{Vhd, Cbt}
 use Rattle.sm_disk.specs.Held.{Held, reads}
 use Rattle.common_laws.specs.Lists.{In}
 use Rattle.vg_meta.specs.Tables.{VolumeTable, extents_of, rows}
@@ -32,6 +32,8 @@ use Rattle.sm_ready.proofs.ChainLaws.{tab}
 use Rattle.sm_ready.proofs.CommitLaws.{IsSafe, ready_safe}
 use Rattle.sm_ready.proofs.FrameLaws.{KeepsVolume}
 use Rattle.sm_ready.proofs.LeftLaws.{extent_some}
+use Rattle.sm_ready.proofs.LogLaws.{HoldsLogs, holds_keeps, holds_ready, logged_left}
+use Rattle.sm_ready.proofs.LogRows.{image_apart}
 use Rattle.sm_ready.proofs.Orders.{geometry_of}
 use Rattle.sm_ready.proofs.RestLaws.{keeps_rest}
 use Rattle.sm_calls.specs.Calls.{Call, CanRun, DoesRun, GoesWell, IsReadyWith, ShowsBetween}
@@ -169,14 +171,22 @@ module _ {S : Type 0} {g : Ghosts S} {a : S} {m : Memory} {u : List ℕ} {to : �
             shown = disks_cut s t (known m) u to row h.cuts (g.area a) ready area did.beside stays ends;
           }
 
-    well : GoesWell (ShowsBetween s (StoreLeaves g a) was was) (IsReadyWith then was) (stored g a) calls
+    -- the logs stay
+    holds : HoldsLogs s t (g.area a) (known m).logs
+    holds = holds_ready s t (g.area a) (known m) h.cuts.orderly ready
+
+    holds_written : (area : Held) → WritesEnd s t (Vhd u) o to (g.area a) area → HoldsLogs s t area (known m).logs
+    holds_written area did =
+        holds_keeps holds area (λ v. other_keeps s t (g.area a) area (Vhd u) (Cbt v) h.cuts.orderly.table (extent_some s t (known m) h.cuts.orderly) did.beside (image_apart (Vhd u) refl v))
+
+    well : GoesWell (ShowsBetween s (StoreLeaves g a) was was (known m).logs) (IsReadyWith then was) (stored g a) calls
     well = record {
-      first = safe_fine was (ready_safe s t (g.area a) (known m) (StoreLeaves g a) h.cuts.orderly ready (λ image is. inr (told, h.usable, is)));
+      first = safe_fine (known m).logs was (ready_safe s t (g.area a) (known m) (StoreLeaves g a) h.cuts.orderly ready (λ image is. inr (told, h.usable, is))) (logged_left holds h.cuts.orderly.table);
       next = (
-        λ area did. safe_fine was (safe_written area did),
+        λ area did. safe_fine (known m).logs was (safe_written area did) (logged_left (holds_written area did) h.cuts.orderly.table),
         λ area did done. let last = last_ready area did done in (ready_fine s next then (reads area) (StoreLeaves g a) was was (orderly_cut s t (known m) u to row h.cuts) last.ready last.shown, last),
       );
     }
 
-    pub done : {z : S} {came ok : Type 0} (n : Known) → DoesRun g calls a z came → (ok → came × (n ≡ then)) → HasDoneFrom s (tab g z) (g.area z) n (StoreLeaves g a) (StoreLeaves g z) ok was was
-    done n run by = law_run n told run well by
+    pub done : {z : S} {came ok : Type 0} (n : Known) → n.logs ≡ (known m).logs → DoesRun g calls a z came → (ok → came × (n ≡ then)) → HasDoneFrom s (tab g z) (g.area z) n (StoreLeaves g a) (StoreLeaves g z) ok was was
+    done n same run by = law_run n told run well same by

@@ -7,7 +7,7 @@ use Rattle.std.proofs.lemmas.Option.{same_Some}
 use Rattle.sm_base.specs.Kinds.{is_entry}
 use Rattle.sm_base.specs.Numbers.{IsGeometry}
 use Rattle.sm_base.specs.declared.names.Name.{Name}
-use Rattle.sm_base.specs.declared.names.Name.TheVariants.{Mgt, Vhd, Inflate}
+use Rattle.sm_base.specs.declared.names.Name.TheVariants.{Mgt, Vhd, Cbt, Inflate}
 use Rattle.sm_disk.specs.Held.{Held, Allows, IsSettled, Keeps, reads}
 use Rattle.sm_disk.proofs.HeldLaws.{Keeps-then}
 use Rattle.vg_meta.specs.Tables.{Row, VolumeTable, extents_of, rows}
@@ -39,6 +39,8 @@ use Rattle.sm_ready.specs.Ready.{IsReady}
 use Rattle.sm_ready.specs.Stores.{content_now}
 use Rattle.sm_ready.proofs.CommitLaws.{volume_rested}
 use Rattle.sm_ready.proofs.LeftLaws.{IsVhdIn, left_in, left_now, now_sector, size_there, vhd_allowed, vhd_in, vhd_of}
+use Rattle.sm_ready.proofs.LogLaws.{holds_ready, logged_as}
+use Rattle.sm_ready.proofs.LogRows.{image_apart}
 use Rattle.sm_ready.proofs.OperationLaws.{below_alike}
 use Rattle.sm_ready.proofs.Orders.{In-tree_row, geometry_of, named_row, whole}
 use Rattle.sm_ready.proofs.RestLaws.{agrees_keeps, keeps_rest}
@@ -243,4 +245,7 @@ module _ (s : Site) (t : VolumeTable) (m : Known) (u es : List ℕ) (row : TreeR
     };
     records = agrees_keeps (records_held s t old) (records_held s (ended s t m u es row h) last) m.places (other_keeps Mgt (λ same. (let x = same in cc)) (λ same. (let x = same in cc))) ready.records;
     recorded = volume_rested s (ended s t m u es row h) (reads area) Mgt;
+    logs = logged_as (holds_ready s t old m h.orderly ready) (ended s t m u es row h) (reads last) (λ v. ended_other s t m u es row h (Cbt v) (image_apart (Vhd u) refl v))
+        (λ v p below. other_there (Cbt v) (image_apart (Vhd u) refl v) refl p below);
+    logged = λ v. volume_rested s (ended s t m u es row h) (reads area) (Cbt v);
   }

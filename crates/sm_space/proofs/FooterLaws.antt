@@ -5,7 +5,7 @@ use Rattle.std.proofs.lemmas.Bool.{cond-true}
 use Rattle.std.proofs.lemmas.Option.{same_Some}
 use Rattle.sm_base.specs.Numbers.{IsGeometry}
 use Rattle.sm_base.specs.declared.names.Name.{Name}
-use Rattle.sm_base.specs.declared.names.Name.TheVariants.{Mgt, Vhd}
+use Rattle.sm_base.specs.declared.names.Name.TheVariants.{Mgt, Vhd, Cbt}
 use Rattle.sm_disk.specs.Held.{Held, Allows, IsSettled, Keeps, reads}
 use Rattle.sm_disk.proofs.HeldLaws.{Allows-reads, Keeps-then, May-reads}
 use Rattle.vg_meta.specs.Tables.{Row, VolumeTable, extents_of, rows}
@@ -41,6 +41,8 @@ use Rattle.sm_ready.specs.Ready.{IsBelow, IsReady}
 use Rattle.sm_ready.specs.Stores.{Leaving, content_in, content_now}
 use Rattle.sm_ready.proofs.CommitLaws.{IsSafe, volume_rested}
 use Rattle.sm_ready.proofs.LeftLaws.{IsLeft, IsVhdIn, extent_some, left_in, now_sector, size_there, vhd_allowed, vhd_in, vhd_of}
+use Rattle.sm_ready.proofs.LogLaws.{holds_ready, logged_as}
+use Rattle.sm_ready.proofs.LogRows.{image_apart}
 use Rattle.sm_ready.proofs.Orders.{geometry_of, whole}
 use Rattle.sm_ready.proofs.RestLaws.{agrees_keeps, keeps_rest}
 use Rattle.sm_ready.proofs.SpliceLaws.{splice_here, splice_left, splice_other, with_volume}
@@ -283,4 +285,7 @@ module _ (s : Site) (t : VolumeTable) (m : Known) (u : List ℕ) (to : ℕ) (row
       };
       records = agrees_keeps (records_held s t old) (records_held s table_cut last) m.places (other_keeps Mgt (λ is. (let x = is in cc))) ready.records;
       recorded = volume_rested s table_cut (reads area) Mgt;
+      logs = logged_as (holds_ready s t old m h.orderly ready) table_cut (reads last) (λ v. cut_other s t m u to row h (Cbt v) (image_apart (Vhd u) refl v))
+          (λ v p below. other_sector (Cbt v) (image_apart (Vhd u) refl v) p below);
+      logged = λ v. volume_rested s table_cut (reads area) (Cbt v);
     }

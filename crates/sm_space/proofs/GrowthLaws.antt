@@ -3,7 +3,7 @@ use Rattle.std.proofs.Common.{◌≡◌, ◌≢◌, inl, inr, ℕ, ◌+◌, ◌-
 use Rattle.std.proofs.lemmas.Bool.{true≢false}
 use Rattle.common_laws.specs.Lists.{In}
 use Rattle.sm_base.specs.declared.names.Name.{Name}
-use Rattle.sm_base.specs.declared.names.Name.TheVariants.{Vhd, Inflate}
+use Rattle.sm_base.specs.declared.names.Name.TheVariants.{Vhd, Cbt, Inflate}
 use Rattle.sm_disk.specs.Held.{Held, Keeps, reads}
 use Rattle.sm_disk.proofs.HeldLaws.{Keeps-then}
 use Rattle.vg_extents.specs.Fits.{AreLeastFree}
@@ -46,6 +46,8 @@ use Rattle.sm_ready.proofs.ChainLaws.{might_show, tab}
 use Rattle.sm_ready.proofs.CommitLaws.{IsSafe, law_settled, ready_safe, volume_rested}
 use Rattle.sm_ready.proofs.FrameLaws.{KeepsVolume}
 use Rattle.sm_ready.proofs.LeftLaws.{IsLeft, extent_some}
+use Rattle.sm_ready.proofs.LogLaws.{HoldsLogs, holds_commit, holds_keeps, holds_ready, logged_left}
+use Rattle.sm_ready.proofs.LogRows.{entry_apart, image_apart}
 use Rattle.sm_ready.proofs.Orders.{In-tree_row, geometry_of, named_row, vhd_row}
 use Rattle.sm_ready.proofs.RestLaws.{keeps_rest}
 use Rattle.sm_journal.specs.Entries.{putting}
@@ -55,8 +57,8 @@ use Rattle.sm_calls.proofs.StoreLaws.{law_run, ready_fine, run_then, safe_fine}
 use Rattle.sm_space.specs.Inflating.{CanEnd, CanEndIn, EndsIn, IfRow, IsEnlarged, WritesEnd, footer_call, growth_calls, inflated, with_extents}
 use Rattle.sm_space.proofs.EndLaws.{disks_ended, ready_ended}
 use Rattle.sm_space.proofs.InflatingLaws.{GrowsIn, own_name, tree_room_sized}
-use Rattle.sm_space.proofs.MomentLaws.{front_larger, front_noted, front_written, moment_larger, moment_noted, moment_safe, moment_shows}
-use Rattle.sm_space.proofs.OrderlyLaws.{after, ended, ended_other, ended_own, ended_shape, ended_volumes, fits_ended, fits_larger, fits_noted, larger, larger_own, larger_size, larger_table, may_drop, may_grow, may_note, noted, only, orderly_ended, own, tidy_ended}
+use Rattle.sm_space.proofs.MomentLaws.{front_larger, front_noted, front_written, larger_other, moment_larger, moment_noted, moment_safe, moment_shows, noted_other}
+use Rattle.sm_space.proofs.OrderlyLaws.{after, ended, ended_other, ended_own, ended_shape, ended_volumes, fits_ended, fits_larger, fits_noted, larger, larger_own, larger_size, larger_table, may_drop, may_grow, may_note, noted, noted_table, only, orderly_ended, own, tidy_ended}
 use Rattle.sm_space.proofs.SizedLaws.{sized, turned_same}
 use Rattle.sm_space.proofs.TrueLaws.{body_ended, true_sized, volume_ended}
 use Rattle.sm_space.proofs.WritingLaws.{writes_footer}
@@ -239,23 +241,39 @@ module _ {S : Type 0} {g : Ghosts S} {a : S} {m : Memory} {u es : List ℕ} {row
         shown = disks_ended s t (known m) u es row h.grows (g.area a) ready area did.beside (but area did) stays ends;
       }
 
-    well : GoesWell (ShowsBetween s (StoreLeaves g a) was was) (IsReadyWith then was) (stored g a) calls
+    -- the logs stay
+    holds : HoldsLogs s t (g.area a) (known m).logs
+    holds = holds_ready s t (g.area a) (known m) h.grows.orderly ready
+
+    holds_noted : HoldsLogs s (noted s t (known m) u es row h.grows) rest (known m).logs
+    holds_noted = holds_commit holds (noted s t (known m) u es row h.grows) (λ v. noted_other s t (known m) u es row h.grows (g.area a) ready (Cbt v) (entry_apart (Inflate u row.extents) refl v))
+        (λ v. volume_rested s (noted s t (known m) u es row h.grows) (reads (g.area a)) (Cbt v))
+
+    holds_larger : HoldsLogs s t2 rest (known m).logs
+    holds_larger = holds_commit holds t2 (λ v. larger_other s t (known m) u es row h.grows (g.area a) ready (Cbt v) (entry_apart (Inflate u row.extents) refl v) (image_apart (Vhd u) refl v))
+        (λ v. volume_rested s t2 (reads (g.area a)) (Cbt v))
+
+    holds_written : (area : Held) → WritesEnd s t2 (Vhd u) o to rest area → HoldsLogs s t2 area (known m).logs
+    holds_written area did = holds_keeps holds_larger area
+        (λ v. other_keeps s t2 rest area (Vhd u) (Cbt v) (larger_table s t (known m) u es row h.grows) (extent_some s t (known m) h.grows.orderly) did.beside (image_apart (Vhd u) refl v))
+
+    well : GoesWell (ShowsBetween s (StoreLeaves g a) was was (known m).logs) (IsReadyWith then was) (stored g a) calls
     well = record {
-      first = safe_fine was safe;
+      first = safe_fine (known m).logs was safe (logged_left holds h.grows.orderly.table);
       next = (
-        safe_fine was safe_noted,
+        safe_fine (known m).logs was safe_noted (logged_left holds_noted (noted_table s t (known m) u es row h.grows)),
         (
-          safe_fine was safe_larger,
+          safe_fine (known m).logs was safe_larger (logged_left holds_larger (larger_table s t (known m) u es row h.grows)),
           (
-            λ area did. safe_fine was (safe_at area did),
+            λ area did. safe_fine (known m).logs was (safe_at area did) (logged_left (holds_written area did) (larger_table s t (known m) u es row h.grows)),
             λ area did done. let last = last_ready area did done in (ready_fine s t3 then (reads area) (StoreLeaves g a) was was (orderly_ended s t (known m) u es row h.grows) last.ready last.shown, last),
           ),
         ),
       );
     }
 
-    pub done : {z : S} {came ok : Type 0} (n : Known) → DoesRun g calls a z came → (ok → came × (n ≡ then)) → HasDoneFrom s (tab g z) (g.area z) n (StoreLeaves g a) (StoreLeaves g z) ok was was
-    done n run by = law_run n told run well by
+    pub done : {z : S} {came ok : Type 0} (n : Known) → n.logs ≡ (known m).logs → DoesRun g calls a z came → (ok → came × (n ≡ then)) → HasDoneFrom s (tab g z) (g.area z) n (StoreLeaves g a) (StoreLeaves g z) ok was was
+    done n same run by = law_run n told run well same by
 
     -- whatever a stop leaves among them shows the disks of an image that might be left before
     shows : GoesWell (λ v image. MayShow s (StoreLeaves g a) (disks (content_in s v image))) (λ x. Unit {0}) (stored g a) calls

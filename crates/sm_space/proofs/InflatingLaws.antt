@@ -1,5 +1,5 @@
 -- What is known of a store and of memory where a volume is to get more extents, and what a call does for which memory is wanting.
-use Rattle.std.proofs.Common.{◌≡◌, ℕ, ◌+◌, ◌-◌, false, List, length, Option, sym, ap, ap₂, ◌∙◌, subst, subst₂, inl, inr, ⊎_elim, arith}
+use Rattle.std.proofs.Common.{◌≡◌, ℕ, ◌+◌, ◌-◌, false, List, [], length, Option, sym, ap, ap₂, ◌∙◌, subst, subst₂, inl, inr, ⊎_elim, arith}
 use Rattle.std.proofs.lemmas.List.{length-map, length-take}
 use Rattle.sm_base.specs.declared.names.Name.{Name}
 use Rattle.sm_base.specs.declared.names.Name.TheVariants.{Vhd}
@@ -22,6 +22,7 @@ use Rattle.sm_refs.specs.Attached.{Attached}
 use Rattle.sm_record.specs.declared.records.Record.{Record}
 use Rattle.sm_run.specs.Between.{IsBetween}
 use Rattle.sm_standing.specs.Keeping.{IsKept}
+use Rattle.sm_standing.specs.Logs.{IsLogged}
 use Rattle.sm_standing.specs.Standing.{disks}
 use Rattle.sm_ready.specs.Done.{HasDoneFrom}
 use Rattle.sm_ready.specs.Known.{Known, known}
@@ -31,6 +32,7 @@ use Rattle.sm_ready.specs.declared.memory.Memory.{Memory}
 use Rattle.sm_ready.proofs.ChainLaws.{only_crash, stored_same, tab}
 use Rattle.sm_ready.proofs.LeaveLaws.{left_choice}
 use Rattle.sm_ready.proofs.CommitLaws.{ready_safe}
+use Rattle.sm_ready.proofs.LogLaws.{holds_ready, logged_before}
 use Rattle.sm_ready.proofs.Orders.{In-tree_row}
 use Rattle.sm_space.specs.Inflating.{IsBelow, IsGrowth, extents_in, with_extents}
 use Rattle.sm_space.proofs.OrderlyLaws.{IsToGrow}
@@ -53,8 +55,8 @@ module _ {S : Type 0} {g : Ghosts S} {a : S} {m : Memory} {u es : List ℕ} {row
 pub known_after : (m n : Memory) (u : List ℕ) (to sum : ℕ) → sum ≡ to → n.tree.rows ≡ with_extents (Vhd u) to m.tree.rows → n.records ≡ m.records → n.attached ≡ m.attached → n.operation ≡ m.operation
     → known n ≡ record (known m) { rows = with_extents (Vhd u) sum (known m).rows }
 known_after m n u to sum is rows records attached operation =
-    ap₂ (λ (rs : List TreeRow) (ps : List (Option Record)). let x : Known = record { rows = rs; places = ps; attached = n.attached; op = n.operation } in x) (rows ∙ ap (λ k. with_extents (Vhd u) k m.tree.rows) (sym is)) records
-    ∙ ap₂ (λ (x : Attached) (o : Op). let y : Known = record { rows = with_extents (Vhd u) sum m.tree.rows; places = m.records; attached = x; op = o } in y) attached operation
+    ap₂ (λ (rs : List TreeRow) (ps : List (Option Record)). let x : Known = record { rows = rs; places = ps; logs = []; attached = n.attached; op = n.operation } in x) (rows ∙ ap (λ k. with_extents (Vhd u) k m.tree.rows) (sym is)) records
+    ∙ ap₂ (λ (x : Attached) (o : Op). let y : Known = record { rows = with_extents (Vhd u) sum m.tree.rows; places = m.records; logs = []; attached = x; op = o } in y) attached operation
 
 -- one row has another number of extents: the tree has as many, and room for all
 pub tree_room_sized : (m n : Memory) (k : Name) (to : ℕ) → n.tree.rows ≡ with_extents k to m.tree.rows → n.tree.spare ≡ m.tree.spare → HasTreeRoom m → HasTreeRoom n
@@ -63,15 +65,19 @@ tree_room_sized m n k to rows spare room = let long = ap (λ (rs : List TreeRow)
 -- ---- a call for which memory is wanting
 
 pub only_read : {S : Type 0} {g : Ghosts S} {a b : S} (m : Memory) → IsOrderlyStore g a m → g.failed a ≡ false → g.told → IsReadyStore g a m → ((v : VolumeTable) (image : ℕ → List ℕ) → g.leaves a v image → IsChoiceOf (stored g a) v image)
-    → OnlyReads g a b → g.area b ≡ g.area a → ((v : VolumeTable) (image : ℕ → List ℕ) → g.leaves b v image → g.leaves a v image) → (n : Known) (ok : Type 0) → (ok → ⊥)
+    → OnlyReads g a b → g.area b ≡ g.area a → ((v : VolumeTable) (image : ℕ → List ℕ) → g.leaves b v image → g.leaves a v image) → (n : Known) (ok : Type 0) → (ok → ⊥) → n.logs ≡ (known m).logs
     → HasDoneFrom (g.site a) (tab g b) (g.area b) n (StoreLeaves g a) (StoreLeaves g b) ok (disks (store_content g a)) (disks (store_content g a))
-only_read {g = g} {a} {b} m orderly usable told ready now reads area fewer n ok never =
+only_read {g = g} {a} {b} m orderly usable told ready now reads area fewer n ok never same =
     let safe = ready_safe (g.site a) (tab g a) (g.area a) (known m) (StoreLeaves g a) orderly ready (λ image is. inr (told, usable, is)) in
     subst₂ (λ y z. HasDoneFrom (g.site a) y z n (StoreLeaves g a) (StoreLeaves g b) ok (disks (store_content g a)) (disks (store_content g a))) (sym reads.stays.table) (sym area) (only_crash never (λ v image l.
-    let here = left_choice g.told (g.site a) (tab g a) (g.area a) (g.leaves a) (g.failed a) now v image
-    (⊎_elim (λ k. inl (fewer v image k)) (λ w. inr (w.0, usable, subst (λ (x : Stored). IsChoiceOf x v image) (stored_same reads area) w.2)) l) in
+    let here = before v image l in
     subst (λ y. IsKept (content_in (g.site a) y image) × IsBetween (MayShow (g.site a) (StoreLeaves g a)) (disks (store_content g a)) (disks (store_content g a)) (disks (content_in (g.site a) y image))) (sym here.table_is)
-    (safe.kept image here.sectors, inl (safe.shown image here.sectors))))
+    (safe.kept image here.sectors, inl (safe.shown image here.sectors)))
+    (λ v image l. subst (IsLogged (content_in (g.site a) v image)) (sym same) (logged_before (holds_ready (g.site a) (tab g a) (g.area a) (known m) orderly ready) orderly.table v image (before v image l))))
+  where
+    before : (v : VolumeTable) (image : ℕ → List ℕ) → StoreLeaves g b v image → IsChoiceOf (stored g a) v image
+    before v image l = left_choice g.told (g.site a) (tab g a) (g.area a) (g.leaves a) (g.failed a) now v image
+        (⊎_elim (λ k. inl (fewer v image k)) (λ w. inr (w.0, usable, subst (λ (x : Stored). IsChoiceOf x v image) (stored_same reads area) w.2)) l)
 
 -- what might be left behind it might be left before it
 pub still_read : {S : Type 0} {g : Ghosts S} {a b : S} → OnlyReads g a b → g.area b ≡ g.area a → ((v : VolumeTable) (image : ℕ → List ℕ) → g.leaves b v image → g.leaves a v image)

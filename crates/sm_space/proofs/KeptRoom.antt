@@ -59,7 +59,7 @@ entry_goes g a b m l p o is c =
     let w = entry_row (tab g a) (Leaf l p) (o.entries ∙ is) in
     let name : w.0.name ≡ Leaf l p = row_of-name (tab g a).volumes (Leaf l p) w.0 w.1 in
     let kind = (All-In IsVolume (tab g a).volumes w.0 o.table.volumes.each (row_of-In (tab g a).volumes (Leaf l p) w.0 w.1).0).kind in
-    let none = no_extents w.0 (Leaf l p) (subst (λ n. suits_as w.0 n ≡ true) name kind) refl (λ other. let z = other in cc) (λ u other. let z = other in cc) in
+    let none = no_extents w.0 (Leaf l p) (subst (λ n. suits_as w.0 n ≡ true) name kind) refl (λ other. let z = other in cc) refl (λ u other. let z = other in cc) in
     record {
       taken = ap (λ (t : VolumeTable). extents_in t.volumes) c.table ∙ used_without (tab g a).volumes (Leaf l p) w.0 w.1 (none_taken w.0 none);
       spare = let more = c.room.spare_rows in omega (arith, more);

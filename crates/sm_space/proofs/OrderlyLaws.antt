@@ -5,10 +5,10 @@ use Rattle.std.proofs.Math.Logic.{∥∥₁_map}
 use Rattle.std.proofs.Math.Nat.{mul-le-mul_right}
 use Rattle.std.proofs.lemmas.Bool.{true≢false}
 use Rattle.std.proofs.lemmas.List.{length-append}
-use Rattle.sm_base.specs.Kinds.{is_image, is_entry}
+use Rattle.sm_base.specs.Kinds.{is_image, is_entry, is_log}
 use Rattle.sm_base.specs.Names.{IsName, IsUuid}
 use Rattle.sm_base.specs.declared.names.Name.{Name}
-use Rattle.sm_base.specs.declared.names.Name.TheVariants.{Mgt, Vhd, Inflate}
+use Rattle.sm_base.specs.declared.names.Name.TheVariants.{Mgt, Vhd, Cbt, Inflate}
 use Rattle.sm_machine.specs.Operations.{Op}
 use Rattle.sm_machine.specs.Operations as op
 use Rattle.sm_base.specs.declared.sizes.Geometry.{Geometry}
@@ -47,6 +47,7 @@ use Rattle.sm_ready.specs.Orderly.{IsOrderly, IsRoomyFor, IsRoomyIn}
 use Rattle.sm_ready.specs.Ready.{IsTidy}
 use Rattle.sm_ready.proofs.FitLaws.{fits_entries}
 use Rattle.sm_ready.proofs.FreshLaws.{raised_well, refs_raised}
+use Rattle.sm_ready.proofs.LogRows.{few_log_rows, image_apart}
 use Rattle.sm_ready.proofs.Orders.{filled_face, none_making}
 use Rattle.sm_ready.proofs.SumLaws.{free_counted}
 use Rattle.sm_space.specs.Inflating.{inflated, with_extents}
@@ -285,8 +286,11 @@ module _ (s : Site) (t : VolumeTable) (m : Known) (u es : List ℕ) (row : TreeR
   few_images : length (table_images t) ≡ length (names_in t is_image)
   few_images = counted is_image t.volumes
 
-  fits_in : (v : VolumeTable) → IsTable s.count v → length (names_in v is_image) ≤ length (names_in t is_image) → length (names_in v is_entry) ≤ 2 → length (text v) ≤ text_limit s.count
-  fits_in v table few entries = fits_entries s.count v table h.orderly.few_extents (omega (arith, counted is_image v.volumes, few, few_images, h.orderly.few)) (omega (arith, entries))
+  fits_in : (v : VolumeTable) → IsTable s.count v → length (names_in v is_image) ≤ length (names_in t is_image) → length (names_in v is_log) ≤ length (names_in t is_log) → length (names_in v is_entry) ≤ 2
+      → length (text v) ≤ text_limit s.count
+  fits_in v table few logs entries =
+      fits_entries s.count v table h.orderly.few_extents (omega (arith, counted is_image v.volumes, few, few_images, h.orderly.few))
+      (omega (arith, counted is_log v.volumes, logs, counted is_log t.volumes, few_log_rows s t m h.orderly)) (omega (arith, entries))
 
   noted_entries : length (names_in noted is_entry) ≤ 2
   noted_entries = omega (arith, named_put is_entry (made entry false []) t.volumes, few_entries)
@@ -294,17 +298,24 @@ module _ (s : Site) (t : VolumeTable) (m : Known) (u es : List ℕ) (row : TreeR
   noted_images : length (names_in noted is_image) ≤ length (names_in t is_image)
   noted_images = omega (arith, named_put is_image (made entry false []) t.volumes)
 
+  noted_logs : length (names_in noted is_log) ≤ length (names_in t is_log)
+  noted_logs = omega (arith, named_put is_log (made entry false []) t.volumes)
+
   pub fits_noted : Fits s.count t (Create entry false [])
-  fits_noted = fits_in noted noted_table noted_images noted_entries
+  fits_noted = fits_in noted noted_table noted_images noted_logs noted_entries
 
   larger_names : names_of larger.volumes ≡ names_of noted.volumes
   larger_names = names_of-with_row noted.volumes (Vhd u) (grown es) (λ r. refl)
 
   pub fits_larger : Fits s.count noted (Grow (Vhd u) es)
-  fits_larger = fits_in larger larger_table (subst (λ ns. length (filter is_image ns) ≤ length (names_in t is_image)) (sym larger_names) noted_images) (subst (λ ns. length (filter is_entry ns) ≤ 2) (sym larger_names) noted_entries)
+  fits_larger =
+      fits_in larger larger_table (subst (λ ns. length (filter is_image ns) ≤ length (names_in t is_image)) (sym larger_names) noted_images)
+      (subst (λ ns. length (filter is_log ns) ≤ length (names_in t is_log)) (sym larger_names) noted_logs) (subst (λ ns. length (filter is_entry ns) ≤ 2) (sym larger_names) noted_entries)
 
   pub fits_ended : Fits s.count larger (Remove entry)
-  fits_ended = fits_in ended ended_table (omega (arith, ap (λ ns. length (filter is_image ns)) ended_names)) (omega (arith, ap (λ ns. length (filter is_entry ns)) ended_names, few_entries))
+  fits_ended =
+      fits_in ended ended_table (omega (arith, ap (λ ns. length (filter is_image ns)) ended_names)) (omega (arith, ap (λ ns. length (filter is_log ns)) ended_names))
+      (omega (arith, ap (λ ns. length (filter is_entry ns)) ended_names, few_entries))
 
   -- ---- the shape
 
@@ -367,6 +378,10 @@ module _ (s : Site) (t : VolumeTable) (m : Known) (u es : List ℕ) (row : TreeR
     images = λ n image. ⊎_elim
         (λ is. ap (λ x. row_face (rows ended x)) is ∙ ap row_face ended_own ∙ face ∙ sym (ap tree_face (turned_same (Vhd u) to m.rows row h.found)) ∙ sym (ap (λ x. tree_face (tree_row after.rows x)) is))
         (λ other. ap row_face (ended_other n other) ∙ h.orderly.images n image ∙ sym (ap tree_face (turned_other (Vhd u) to m.rows n other))) (named_or_not n (Vhd u));
+    logs = λ d. ap row_face (ended_other (Cbt d) (image_apart (Vhd u) refl d)) ∙ h.orderly.logs d;
+    few_logs = h.orderly.few_logs;
+    logs_in_order = h.orderly.logs_in_order;
+    log_room = h.orderly.log_room;
     places = h.orderly.places;
     entries = ap (λ ns. filter is_entry ns) ended_names ∙ h.orderly.entries;
     stands = λ r i. stands_in r (In-turned (Vhd u) to m.rows r i);

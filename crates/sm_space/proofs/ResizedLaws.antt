@@ -32,6 +32,7 @@ use Rattle.sm_run.specs.Between.{IsBetween}
 use Rattle.sm_standing.specs.Contents.{sectors_of}
 use Rattle.sm_standing.specs.Images.{image_of}
 use Rattle.sm_standing.specs.Keeping.{IsKept}
+use Rattle.sm_standing.specs.Logs.{IsLogged}
 use Rattle.sm_standing.specs.Outlines.{Link, link_of}
 use Rattle.sm_standing.specs.Standing.{disks}
 use Rattle.sm_ready.specs.Done.{HasDone}
@@ -46,6 +47,7 @@ use Rattle.sm_ready.proofs.GrownLaws.{IsGrowing, grown_now, grown_stop, others_s
 use Rattle.sm_ready.proofs.GrownStores.{grows, ready_sized, steady_sized}
 use Rattle.sm_ready.proofs.LeaveLaws.{left_choice}
 use Rattle.sm_ready.proofs.LeftLaws.{IsLeft, extent_some, left_in, left_now, left_volume, links_left, now_sector}
+use Rattle.sm_ready.proofs.LogRows.{image_apart}
 use Rattle.sm_ready.proofs.OperationLaws.{below_alike}
 use Rattle.sm_ready.proofs.RepairLaws.{all_quiet}
 use Rattle.sm_ready.proofs.SizedRows.{link_sized, other_sized, sized, with_image}
@@ -53,6 +55,7 @@ use Rattle.sm_ready.proofs.StopLaws.{image_by_sectors, link_at, name_or_not}
 use Rattle.sm_ready.proofs.SyncLaws.{IsSynced}
 use Rattle.sm_ready.proofs.TakenLaws.{IsTold}
 use Rattle.sm_space.proofs.ResizeLaws.{IsToResize, grown, named_vhd, no_less, orderly_grown, own_vhd, sectors, sound_sized, works_apart}
+use Rattle.sm_space.proofs.SyncedLaws.{logged_work}
 
 pub never_ok : {T E : Type 0} (result : Result T E) → IsErr result → IsOk result → ⊥
 never_ok (Ok x) err ok = (let z = err in cc)
@@ -129,12 +132,16 @@ module _ {S : Type 0} (g : Ghosts S) (a b : S) (m : Memory) (u : List ℕ) (byte
           (sym (x.table_is ∙ works.stays.table))
           (is.0, subst (λ ds. IsBetween (MayShow s (StoreLeaves g a)) (disks (store_content g a)) ds (disks (content_in s t image))) after_is is.1)
 
+      -- and it has the logs of memory
+      logged_at : (n : Known) → n.logs ≡ (known m).logs → (w : VolumeTable) (image : ℕ → List ℕ) → IsChoiceOf (stored g b) w image → IsLogged (content_in s w image) n.logs
+      logged_at = logged_work i works (λ v is. image_apart (Vhd u) refl v (is ∙ named_vhd h))
+
       left_written : (w : VolumeTable) (image : ℕ → List ℕ) → StoreLeaves g b w image → IsChoiceOf (stored g b) w image
       left_written w image l = left_choice g.told (g.site b) (tab g b) (g.area b) (g.leaves b) (g.failed b) later w image l
 
       -- a footer was not written
-      pub resized_failed : (n : Known) (ok : Type 0) → (ok → ⊥) → HasDone s t (tab g b) (g.area a) (g.area b) n (StoreLeaves g a) (StoreLeaves g b) ok (machine_disks (disks (store_content g a)) (shape_in (g.site a) (tab g a) (known m)) (Resize u bytes))
-      resized_failed n ok never = only_crash never (λ w image l. crash_at w image (left_written w image l))
+      pub resized_failed : (n : Known) (ok : Type 0) → (ok → ⊥) → n.logs ≡ (known m).logs → HasDone s t (tab g b) (g.area a) (g.area b) n (StoreLeaves g a) (StoreLeaves g b) ok (machine_disks (disks (store_content g a)) (shape_in (g.site a) (tab g a) (known m)) (Resize u bytes))
+      resized_failed n ok never same_logs = only_crash never (λ w image l. crash_at w image (left_written w image l)) (λ w image l. logged_at n same_logs w image (left_written w image l))
 
       module _ (e : S) (y : IsSynced g b e) where
         left_end : (w : VolumeTable) (image : ℕ → List ℕ) → StoreLeaves g e w image → IsChoiceOf (stored g b) w image
@@ -147,8 +154,8 @@ module _ {S : Type 0} (g : Ghosts S) (a b : S) (m : Memory) (u : List ℕ) (byte
         end_crash w image l = crash_at w image (left_end w image l)
 
         -- the sync failed
-        pub resized_unsettled : (n : Known) (ok : Type 0) → (ok → ⊥) → HasDone s t (tab g e) (g.area a) (g.area e) n (StoreLeaves g a) (StoreLeaves g e) ok (machine_disks (disks (store_content g a)) (shape_in (g.site a) (tab g a) (known m)) (Resize u bytes))
-        resized_unsettled n ok never = only_crash never end_crash
+        pub resized_unsettled : (n : Known) (ok : Type 0) → (ok → ⊥) → n.logs ≡ (known m).logs → HasDone s t (tab g e) (g.area a) (g.area e) n (StoreLeaves g a) (StoreLeaves g e) ok (machine_disks (disks (store_content g a)) (shape_in (g.site a) (tab g a) (known m)) (Resize u bytes))
+        resized_unsettled n ok never same_logs = only_crash never end_crash (λ w image l. logged_at n same_logs w image (left_end w image l))
 
         -- all lasts
         module _ (rested : IsSettled (g.area a)) (settled : IsSettled (g.area e)) (new : Body) (is : new ≡ resized size r.image) (truth : Holds g (row_name r) (λ x. TrueIn s.geometry (sectors_in (stored g a) (row_name r)) x new) b) where
@@ -199,4 +206,5 @@ module _ {S : Type 0} (g : Ghosts S) (a b : S) (m : Memory) (u : List ℕ) (byte
             shown = λ _. ap (λ z. disks (content_now s z (g.area e))) (y.table ∙ works.stays.table)
                 ∙ grown_now s t (known m) (g.area a) u r size (reads (g.area e)) h.orderly i.ready end h.shown (no_less h) size_end earlier_same ∙ after_is;
             crash = end_crash;
+            logged = λ w image l. logged_at n (ap (λ (k : Known). k.logs) same) w image (left_end w image l);
           }

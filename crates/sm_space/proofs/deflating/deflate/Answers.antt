@@ -23,7 +23,7 @@ pub returns-in_err-run_cut-clause-done : goal.returns-in_err-run_cut-clause-done
 returns-in_err-run_cut-clause-done g c =
     let r = c.requires in
     let h = (cuts_in g.S.Store c.args.store.now c.args.memory.now c.args.disk.now c.args.to r.session.orderly r.session.tidy r.session.usable r.there).1 in
-    λ told ready. done h told ready _ c.in_err-run_cut.ensures.cut (λ fine. absurd (err_not_ok _ tt c.from_residual.ensures.0 fine))
+    λ told ready. done h told ready _ refl c.in_err-run_cut.ensures.cut (λ fine. absurd (err_not_ok _ tt c.from_residual.ensures.0 fine))
 
 pub set_extents-requires : goal.set_extents-requires
 set_extents-requires g c =
@@ -56,4 +56,4 @@ returns-clause-done g c =
     let h = (cuts_in g.S.Store c.args.store.now c.args.memory.now c.args.disk.now c.args.to r.session.orderly r.session.tidy r.session.usable r.there).1 in
     let o = c.set_extents.ensures.others in
     let is = known_after c.args.memory.now c.set_extents.new.memory c.args.disk.now c.args.to c.args.to refl c.set_extents.ensures.rows o.0 o.1 o.2 in
-    λ told ready. done h told ready _ c.in_ok-run_cut.ensures.run (λ fine. (tt, is))
+    λ told ready. done h told ready _ refl c.in_ok-run_cut.ensures.run (λ fine. (tt, is))

@@ -1,4 +1,4 @@
-use Rattle.std.proofs.Common.{ℕ, ◌+◌, List, length, ◌≡◌, sym, ap, ◌∙◌, subst, subst₂}
+use Rattle.std.proofs.Common.{ℕ, ◌+◌, List, length, ◌≡◌, refl, sym, ap, ◌∙◌, subst, subst₂}
 use Rattle.sm_base.specs.declared.names.Name.{Name}
 use Rattle.sm_base.specs.declared.names.Name.TheVariants.{Vhd, Inflate}
 use Rattle.vg_meta.specs.Changes.{HasRoom, applied}
@@ -55,7 +55,7 @@ returns-in_err-run_growth-clause-done g c =
     let h = grows_in g.S.Store a m u c.args.to c.args.growth r.session.orderly r.session.tidy r.session.usable r.there r.growth in
     let sum = sum_is g.S.Store a m u c.args.to c.args.growth r.session.orderly r.session.tidy r.session.usable r.there r.growth in
     let run = run_is (Inflate u) (Vhd u) m.tree.rows c.args.to (c.extents_of.ensures ∙ ap extents_in r.there.there) r.growth.is c.in_err-run_growth.ensures.cut in
-    λ told ready. done h c.args.to sum told ready _ run (λ fine. absurd (err_not_ok _ tt c.from_residual.ensures.0 fine))
+    λ told ready. done h c.args.to sum told ready _ refl run (λ fine. absurd (err_not_ok _ tt c.from_residual.ensures.0 fine))
 
 pub returns-in_err-run_growth-clause-still : goal.returns-in_err-run_growth-clause-still
 returns-in_err-run_growth-clause-still g c =
@@ -119,7 +119,7 @@ returns-clause-done g c =
     let run = run_is (Inflate u) (Vhd u) m.tree.rows c.args.to (c.extents_of.ensures ∙ ap extents_in r.there.there) r.growth.is c.in_ok-run_growth.ensures.run in
     let o = c.set_extents.ensures.others in
     let is = known_after m c.set_extents.new.memory u c.args.to (r.there.row.extents + length r.growth.extents) sum c.set_extents.ensures.rows o.0 o.1 o.2 in
-    λ told ready. done h c.args.to sum told ready _ run (λ fine. (tt, is))
+    λ told ready. done h c.args.to sum told ready _ refl run (λ fine. (tt, is))
 
 pub returns-clause-still : goal.returns-clause-still
 returns-clause-still g c =

@@ -16,7 +16,7 @@ pub returns-in_default-clause-done : goal.returns-in_default-clause-done
 returns-in_default-clause-done g c = λ told ready.
     let e = c.plan_growth.ensures in
     let s = c.requires.session in
-    only_read c.args.memory.now s.orderly s.usable told ready (g.met.S.Store.leaves_now c.args.store.now told s.usable) e.reads e.same.1 e.leaves _ _ (λ fine. absurd (let x = fine in cc))
+    only_read c.args.memory.now s.orderly s.usable told ready (g.met.S.Store.leaves_now c.args.store.now told s.usable) e.reads e.same.1 e.leaves _ _ (λ fine. absurd (let x = fine in cc)) refl
 
 pub returns-in_default-clause-still : goal.returns-in_default-clause-still
 returns-in_default-clause-still g c = λ told ready again w image l. record { table = w; image = image; left = inl (c.plan_growth.ensures.leaves w image l); shown = refl }

@@ -1,4 +1,4 @@
-use Rattle.std.proofs.Common.{◌≡◌, List, ap, ap₂, ◌∙◌, subst}
+use Rattle.std.proofs.Common.{◌≡◌, List, refl, ap, ap₂, ◌∙◌, subst}
 use Rattle.std.specs.Result.{IsOk}
 use Rattle.vg_meta.specs.Roomy.{table_alone}
 use Rattle.vg_volumes.proofs.StoredLaws.{stays_from, stays_then}
@@ -25,7 +25,7 @@ returns-in_err-sync-clause-done g c = λ told ready.
     synced_failed
     (is_told g.S.Store c.args.store.now c.args.memory.now c.requires.session.orderly c.requires.session.usable told ready (g.met.S.Store.leaves_now c.args.store.now told c.requires.session.usable))
     (record { site = c.sync.ensures.site; table = c.sync.ensures.table.0; failed = c.sync.ensures.table.1; keeps = c.sync.ensures.keeps told; leaves = c.sync.ensures.leaves told })
-    _ _ _ (λ fine. never_ok _ c.from_residual.ensures.0 fine)
+    _ _ _ (λ fine. never_ok _ c.from_residual.ensures.0 fine) refl
 
 pub set_sizes-requires-clause-session : goal.set_sizes-requires-clause-session
 set_sizes-requires-clause-session g c =

@@ -17,9 +17,10 @@ pub returns-in_default-clause-done : goal.returns-in_default-clause-done
 returns-in_default-clause-done g c = λ told ready.
     let e = c.plan_larger.ensures in
     let r = c.requires.session in
+    let done = only_read c.args.memory.now r.orderly r.usable told ready (g.met.S.Store.leaves_now c.args.store.now told r.usable) e.reads e.same.1 e.leaves (known c.args.memory.now) ⊥ (λ fine. fine) refl in
     only_crash (λ fine. let x = fine in cc) (λ v image l.
-    let w = (only_read c.args.memory.now r.orderly r.usable told ready (g.met.S.Store.leaves_now c.args.store.now told r.usable) e.reads e.same.1 e.leaves (known c.args.memory.now) ⊥ (λ fine. fine)).crash v image l in
-    (w.0, still_before (disks_next (disks (store_content g.S.Store c.args.store.now)) (store_shape g.S.Store c.args.store.now c.args.memory.now) (command.Resize c.args.disk.now c.args.size)) _ (might_show g.S.Store r.usable told) w.1))
+    let w = done.crash v image l in
+    (w.0, still_before (disks_next (disks (store_content g.S.Store c.args.store.now)) (store_shape g.S.Store c.args.store.now c.args.memory.now) (command.Resize c.args.disk.now c.args.size)) _ (might_show g.S.Store r.usable told) w.1)) done.logged
 
 pub resize_given-requires-clause-session : goal.resize_given-requires-clause-session
 resize_given-requires-clause-session g c = reads_between c.args.memory.now c.plan_larger.ensures.reads c.requires.session

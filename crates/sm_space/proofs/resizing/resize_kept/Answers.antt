@@ -33,7 +33,7 @@ enlarge-requires-clause-there g c =
 pub returns-in_err-enlarge-clause-done : goal.returns-in_err-enlarge-clause-done
 returns-in_err-enlarge-clause-done g c = λ told ready. only_crash (λ fine. never_ok _ c.from_residual.ensures.0 fine) (λ v image l.
     let w = (c.enlarge.ensures.done told ready).crash v image l in
-    (w.0, still_before (disks_next (disks (store_content g.S.Store c.args.store.now)) (store_shape g.S.Store c.args.store.now c.args.memory.now) (command.Resize c.args.disk.now c.args.size)) _ (might_show g.S.Store c.requires.session.usable told) w.1))
+    (w.0, still_before (disks_next (disks (store_content g.S.Store c.args.store.now)) (store_shape g.S.Store c.args.store.now c.args.memory.now) (command.Resize c.args.disk.now c.args.size)) _ (might_show g.S.Store c.requires.session.usable told) w.1)) (c.enlarge.ensures.done told ready).logged
 
 pub make_larger-requires-2-clause-allowed : goal.make_larger-requires-2-clause-allowed
 make_larger-requires-2-clause-allowed g c =

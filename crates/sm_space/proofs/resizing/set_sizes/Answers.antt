@@ -74,7 +74,7 @@ returns-in_err-sized-clause-done g c = λ told ready.
     resized_failed g.S.Store c.args.store.now c.set_size-sized.new.store c.args.memory.now c.args.disk.now c.args.size c.in-Some.row (unwritten g c) c.set_size-sized.ensures.works
     (is_told g.S.Store c.args.store.now c.args.memory.now c.requires.session.orderly c.requires.session.usable told ready (g.met.S.Store.leaves_now c.args.store.now told c.requires.session.usable))
     (changes_as g.S.Store c.args.store.now c.set_size-sized.new.store c.in-Some.row.image (c.rounded-sectors.ensures _ _ (known c.args.memory.now) (sym c.geometry.ensures)) c.set_size-sized.ensures.changes) (g.met.S.Store.leaves_now c.set_size-sized.new.store told (c.set_size-sized.ensures.works.stays.failed ∙ c.requires.session.usable))
-    (stands_grown (unwritten g c)) _ _ (λ fine. never_ok _ c.from_residual.ensures.0 fine)
+    (stands_grown (unwritten g c)) _ _ (λ fine. never_ok _ c.from_residual.ensures.0 fine) refl
 
 -- the disk, in the row that was taken out: where the sync failed
 abbrev unsynced : (g : Over) (c : goal.After-from_residual-in_err-sync g) → IsToResizeIn g.S.Store c.args.store.now c.args.memory.now c.args.disk.now c.args.size c.in-Some.row
@@ -98,7 +98,7 @@ returns-in_err-sync-clause-done g c = λ told ready.
     (changes_as g.S.Store c.args.store.now c.set_size-sized.new.store c.in-Some.row.image (c.rounded-sectors.ensures _ _ (known c.args.memory.now) (sym c.geometry.ensures)) c.set_size-sized.ensures.changes) (g.met.S.Store.leaves_now c.set_size-sized.new.store told (c.set_size-sized.ensures.works.stays.failed ∙ c.requires.session.usable))
     (stands_grown (unsynced g c)) c.sync.new.self
     (record { site = c.sync.ensures.site; table = c.sync.ensures.table.0; failed = c.sync.ensures.table.1; keeps = c.sync.ensures.keeps told; leaves = c.sync.ensures.leaves told })
-    _ _ (λ fine. never_ok _ c.from_residual-in_err-sync.ensures.0 fine)
+    _ _ (λ fine. never_ok _ c.from_residual-in_err-sync.ensures.0 fine) refl
 
 -- the disk, in the row that was taken out: once all lasts
 abbrev lasting : (g : Over) (c : goal.In_ok-sync g) → IsToResizeIn g.S.Store c.args.store.now c.args.memory.now c.args.disk.now c.args.size c.in-Some.row
