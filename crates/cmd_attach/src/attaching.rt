@@ -1,6 +1,6 @@
 //! Attaching a disk whose image has its extents, and detaching one.
 
-ghost use Rattle.std.specs.Prelude.{◌≡◌, OnOk};
+ghost use Rattle.std.specs.Prelude.{◌≡◌, OnOk, OnErr};
 ghost use Rattle.vg_volumes.specs.Stored.{Counts, Stays};
 ghost use Rattle.sm_machine.specs.declared.commands.Command.TheVariants as command;
 ghost use Rattle.sm_ready.specs.Refusing.{IsAllowed};
@@ -57,6 +57,7 @@ pub(crate) fn leave<S: Store>(store: &mut S, memory: &mut Memory, disk: &Uuid) -
     ensures cause { Counts S.Store result store.old store.new }
     ensures session_still { IsBetweenSteps S.Store store.new memory.new }
     ensures others { StaysBeside memory.old memory.new }
+    ensures attached { OnErr result (memory.new.attached ≡ memory.old.attached) }
     ensures shape { OnOk result (ShapesAs S.Store (command.Detach disk.now) store.old memory.old store.new memory.new) }
     ensures done { S.told → IsReadyStore S.Store store.old memory.old
         → StoreDoes S.Store (command.Detach disk.now) store.old memory.old store.new memory.new (result ≡ Ok tt) }

@@ -1,6 +1,6 @@
 //! Detaching a disk, whatever operation runs.
 
-ghost use Rattle.std.specs.Prelude.{◌≡◌, false, OnOk};
+ghost use Rattle.std.specs.Prelude.{◌≡◌, false, OnOk, OnErr};
 ghost use Rattle.sm_machine.specs.Commits.{folds};
 ghost use Rattle.vg_volumes.specs.Stored.{Counts, Stays};
 ghost use Rattle.sm_machine.specs.declared.commands.Command.TheVariants as command;
@@ -31,6 +31,7 @@ pub fn detach<S: Store>(store: &mut S, memory: &mut Memory, disk: &Uuid) -> Resu
     ensures session_still { OnOk result (IsBetweenSteps S.Store store.new memory.new) }
     ensures kept_between { folds memory.old.operation disk.now ≡ false → IsBetweenSteps S.Store store.new memory.new }
     ensures others { (memory.new.tree ≡ memory.old.tree) × (memory.new.records ≡ memory.old.records) }
+    ensures attached { OnErr result (memory.new.attached ≡ memory.old.attached) }
     ensures operation { OnOk result (memory.new.operation ≡ unfolded memory.old.operation disk.now) }
     ensures shape { OnOk result (ShapesAs S.Store (command.Detach disk.now) store.old memory.old store.new memory.new) }
     ensures done { S.told → IsReadyStore S.Store store.old memory.old

@@ -14,14 +14,14 @@ use Rattle.vg_meta.proofs.NameLaws.{name_eq-other, name_eq-same, name_eq-true}
 use Rattle.common_laws.proofs.Bytes.{bytes_eq-refl, bytes_eq-same}
 use Rattle.common_laws.proofs.Lists.{In-filter, In-map, In-map_at}
 use Rattle.sm_base.specs.declared.names.Name.{Name}
-use Rattle.sm_base.specs.declared.names.Name.TheVariants.{Mgt, Vhd, Raw}
+use Rattle.sm_base.specs.declared.names.Name.TheVariants.{Mgt, Vhd, Raw, Cbt}
 use Rattle.sm_disk.specs.Held.{Held, IsSettled, May, reads}
 use Rattle.sm_disk.specs.Sectors.{zeros}
 use Rattle.common_laws.specs.Lists.{◌>>=◌, Distinct, In, numbers}
 use Rattle.vg_meta.specs.Tables.{VolumeTable, extents_of, rows}
 use Rattle.vg_meta.specs.Changes.{applied}
 use Rattle.vg_meta.specs.declared.changes.Change.TheVariants.{Remove}
-use Rattle.vg_meta.proofs.ByName.{mgt_stays}
+use Rattle.vg_meta.proofs.ByName.{changes_by_name, mgt_stays}
 use Rattle.vg_volumes.specs.Commits.{IsBefore}
 use Rattle.vg_volumes.specs.Sites.{Site, area_size}
 use Rattle.vg_volumes.specs.Stored.{CanCommit, Commits, FailsToCommit, IsChoiceOf, IsEitherOf, WorksOn, Writes, stored}
@@ -76,6 +76,9 @@ use Rattle.sm_ready.proofs.RemoveLaws.{In-without, after, image_kept, no_child, 
 use Rattle.sm_ready.proofs.RestLaws.{IsOfRow, agrees_keeps, ready_rest}
 use Rattle.sm_ready.proofs.ShapeLaws.{plainly_stands, standing_shown}
 use Rattle.sm_ready.proofs.ChainLaws.{commit_failed, commit_made, only_crash, tab}
+use Rattle.sm_ready.proofs.LogLaws.{holds_commit, holds_keeps, holds_ready, logged_before}
+use Rattle.sm_ready.proofs.LogRows.{name_apart}
+use Rattle.sm_standing.specs.Logs.{IsLogged}
 use Rattle.sm_ready.proofs.StrayLaws.{IsFreed, IsSwept, IsUnseen, orderly_freed, shape_freed, swept_disks, swept_kept, with_places}
 use Rattle.sm_ready.proofs.SyncLaws.{IsSynced}
 use Rattle.sm_ready.proofs.TakenLaws.{IsTold}
@@ -99,7 +102,10 @@ module _ {s : Site} {t : VolumeTable} {m : Known} {u : List ℕ} (h : IsToDelete
 
   -- memory is ready on a device at rest
   pub ready_less : IsReady s next (at_rest (reads old)) (without_image_of x m)
-  ready_less = ready_rest s t next old m (without_image_of x m) ready from (ap extents_of (mgt_stays s.count t (Remove x) h.orderly.table (may_go h))) refl (volume_rested s next (reads old))
+  ready_less = ready_rest s t next old m (without_image_of x m) ready from (ap extents_of (mgt_stays s.count t (Remove x) h.orderly.table (may_go h))) refl
+      (holds_commit (holds_ready s t old m h.orderly ready) next (λ u. (changes_by_name s.count t (Remove x) h.orderly.table (may_go h)).others (Cbt u) (name_apart x (named_image h) u))
+      (λ u. volume_rested s next (reads old) (Cbt u))).logs
+      (volume_rested s next (reads old))
       (below_alike was now m.op refl refl (λ n works. images n (λ same. ∥∥₁_elim h.orderly.well_formed (hlevel props) (λ w. apart h w n works same))) ready.firm.below)
     where
       from : (q : TreeRow) → In q (without_image_of x m).rows → IsOfRow t next m q
@@ -239,8 +245,8 @@ ended x u m = with_places (map (cleared u) m.places) (without_image_of x m)
 pub known_ended : (m n : Memory) (x y : Name) (u : List ℕ) → x ≡ y → n.tree.rows ≡ without x m.tree.rows → n.records ≡ map (cleared u) m.records → n.attached ≡ m.attached → n.operation ≡ m.operation
     → known n ≡ ended y u (known m)
 known_ended m n x y u same rows_are records_are attached_are operation_is =
-    ap₂ (λ (rs : List TreeRow) (ps : List (Option Record)). let k : Known = record { rows = rs; places = ps; attached = n.attached; op = n.operation } in k) (rows_are ∙ ap (λ z. without z m.tree.rows) same) records_are
-    ∙ ap₂ (λ (z : Attached) (o : Op). let k : Known = record { rows = without y m.tree.rows; places = map (cleared u) m.records; attached = z; op = o } in k) attached_are operation_is
+    ap₂ (λ (rs : List TreeRow) (ps : List (Option Record)). let k : Known = record { rows = rs; places = ps; logs = []; attached = n.attached; op = n.operation } in k) (rows_are ∙ ap (λ z. without z m.tree.rows) same) records_are
+    ∙ ap₂ (λ (z : Attached) (o : Op). let k : Known = record { rows = without y m.tree.rows; places = map (cleared u) m.records; logs = []; attached = z; op = o } in k) attached_are operation_is
 
 module _ {S : Type 0} (g : Ghosts S) (a : S) (m : Memory) {u : List ℕ} (d : IsToDelete (g.site a) (tab g a) (known m) u) {x : Name} (is : x ≡ volume d) where
   abbrev less_known : Known
@@ -302,7 +308,7 @@ module _ {S : Type 0} {g : Ghosts S} {a : S} {m : Memory} {u : List ℕ} (h : Is
       → HasDone (g.site a) (tab g a) (less_table g a m d is) (g.area a) (g.area b) (less_known g a m d is) (StoreLeaves g a) (StoreLeaves g b) ok (less_disks u was_disks)
   first {b} ok commit =
       law_single_commit (g.site a) (tab g a) (less_table g a m d is) (g.area a) (g.area b) (known m) (less_known g a m d is) (StoreLeaves g a) (StoreLeaves g b) ok (less_disks u was_disks) h.orderly h.ready
-      (orderly_less d) (ready_less d (g.area a) h.ready) (λ image at. inr (h.told, h.usable, at)) commit (disks_deleted d (g.area a) h.ready)
+      (orderly_less d) (ready_less d (g.area a) h.ready) (λ image at. inr (h.told, h.usable, at)) commit (disks_deleted d (g.area a) h.ready) refl
 
   stops : {b : S} → ((v : VolumeTable) (image : ℕ → List ℕ) → g.leaves b v image → IsEitherOf (stored g a) (Remove x) v image) → (v : VolumeTable) (image : ℕ → List ℕ) → g.leaves b v image → IsEitherOf (stored g a) (Remove (volume d)) v image
   stops stop v image l = subst (λ n. IsEitherOf (stored g a) (Remove n) v image) is (stop v image l)
@@ -311,7 +317,8 @@ module _ {S : Type 0} {g : Ghosts S} {a : S} {m : Memory} {u : List ℕ} (h : Is
   pub remove_failed : {b : S} (n : Memory) (ok : Type 0) → (ok → ⊥) → FailsToCommit g a b → ((v : VolumeTable) (image : ℕ → List ℕ) → g.leaves b v image → IsEitherOf (stored g a) (Remove x) v image)
       → StoreDoes g (Delete u) a m b n ok
   unfolding disks_next
-  remove_failed n ok never fails stop = only_crash never (first ok (commit_failed g (Remove (volume d)) ok never refl refl h.told fails (stops stop))).crash
+  remove_failed n ok never fails stop =
+      let done = first ok (commit_failed g (Remove (volume d)) ok never refl refl h.told fails (stops stop)) in only_crash never done.crash done.logged
 
   module _ {b : S} (c : Commits g (Remove x) a b) (stop : (v : VolumeTable) (image : ℕ → List ℕ) → g.leaves b v image → IsEitherOf (stored g a) (Remove x) v image) where
     abbrev orderly_b : IsOrderly (g.site b) (tab g b) (less_known g a m d is)
@@ -335,6 +342,8 @@ module _ {S : Type 0} {g : Ghosts S} {a : S} {m : Memory} {u : List ℕ} (h : Is
       swept = record {
         images = λ q i. other_keeps (g.site b) (tab g b) (g.area b) (g.area e) Mgt (row_name q) orderly_b.table (extent_some (g.site b) (tab g b) (less_known g a m d is) orderly_b)
             (KeepsElsewhere-same (w.beside h.told)) (not_mgt (g.site b) (tab g b) (less_known g a m d is) orderly_b q i);
+        logs = λ v. other_keeps (g.site b) (tab g b) (g.area b) (g.area e) Mgt (Cbt v) orderly_b.table (extent_some (g.site b) (tab g b) (less_known g a m d is) orderly_b)
+            (KeepsElsewhere-same (w.beside h.told)) (λ same. let z = same in cc);
         records = λ p v below may. ⊎_elim (λ was. inl was) (λ z. inr (ap reading z.0 ∙ reading_zeros 512, unseen_at (less_known g a m d is).rows m.records u p (unseen d) z.1))
             (may_zeroed (did_in (stays_none b) w h.told) p v may);
       }
@@ -349,6 +358,11 @@ module _ {S : Type 0} {g : Ghosts S} {a : S} {m : Memory} {u : List ℕ} (h : Is
             inr (already (MayShow (g.site a) (StoreLeaves g a)) (less_disks u was_disks) (disks (content_in (g.site b) (tab g b) image)) shown),
           )
 
+      -- and it has the logs of memory
+      cleared_logged : (v : VolumeTable) (image : ℕ → List ℕ) → IsBefore (area_size (g.site b)) (tab g b) (g.area e) v image → IsLogged (content_in (g.site a) v image) (known m).logs
+      cleared_logged v image at = subst (λ z. IsLogged (content_in z v image) (known m).logs) c.site (logged_before
+          (holds_keeps (holds_ready (g.site b) (tab g b) (g.area b) (less_known g a m d is) orderly_b ready_b) (g.area e) swept.logs) orderly_b.table v image at)
+
       left_cleared : (v : VolumeTable) (image : ℕ → List ℕ) → StoreLeaves g e v image → IsBefore (area_size (g.site b)) (tab g b) (g.area e) v image
       left_cleared v image l =
           subst₂ (λ y z. IsBefore (area_size y) z (g.area e) v image) w.stays.site w.stays.table (left_choice g.told (g.site e) (tab g e) (g.area e) (g.leaves e) (g.failed e) choice v image l)
@@ -356,7 +370,7 @@ module _ {S : Type 0} {g : Ghosts S} {a : S} {m : Memory} {u : List ℕ} (h : Is
       -- a write failed
       pub clear_failed : (n : Memory) (ok : Type 0) → (ok → ⊥) → StoreDoes g (Delete u) a m e n ok
       unfolding disks_next
-      clear_failed n ok never = only_crash never (λ v image l. cleared_crash v image (left_cleared v image l))
+      clear_failed n ok never = only_crash never (λ v image l. cleared_crash v image (left_cleared v image l)) (λ v image l. cleared_logged v image (left_cleared v image l))
 
       module _ {f : S} (y : IsSynced g e f) where
         left_end : (v : VolumeTable) (image : ℕ → List ℕ) → StoreLeaves g f v image → IsBefore (area_size (g.site b)) (tab g b) (g.area e) v image
@@ -371,7 +385,7 @@ module _ {S : Type 0} {g : Ghosts S} {a : S} {m : Memory} {u : List ℕ} (h : Is
         -- the sync behind them failed
         pub end_failed : (n : Memory) (ok : Type 0) → (ok → ⊥) → StoreDoes g (Delete u) a m f n ok
         unfolding disks_next
-        end_failed n ok never = only_crash never end_crash
+        end_failed n ok never = only_crash never end_crash (λ v image l. cleared_logged v image (left_end v image l))
 
         module _ (settled : IsSettled (g.area f)) (wrote : Writes g Mgt (WroteZeros (HasRecordAt m.records u)) b e) where
           agrees : Agrees (records_held (g.site b) (tab g b) (g.area f)) (map (cleared u) m.records)
@@ -395,6 +409,7 @@ module _ {S : Type 0} {g : Ghosts S} {a : S} {m : Memory} {u : List ℕ} (h : Is
                 settled = λ _. settled;
                 shown = λ _. subst₂ (λ k t. disks (content_now k t (g.area f)) ≡ less_disks u was_disks) c.site table shown_end;
                 crash = end_crash;
+                logged = λ v image l. cleared_logged v image (left_end v image l);
               }
 
 -- ---- room

@@ -11,7 +11,7 @@ use Rattle.common_laws.proofs.Lists.{find-some}
 use Rattle.std.proofs.Math.ListN.{get_or, set}
 use Rattle.std.proofs.lemmas.Bool.{lt-ltb, true≢false}
 use Rattle.sm_base.specs.declared.names.Name.{Name}
-use Rattle.sm_base.specs.declared.names.Name.TheVariants.{Mgt}
+use Rattle.sm_base.specs.declared.names.Name.TheVariants.{Mgt, Cbt}
 use Rattle.sm_disk.specs.Held.{IsSettled, Torn, Wrote, reads}
 use Rattle.sm_disk.specs.Sectors.{sector}
 use Rattle.sm_disk.proofs.HeldLaws.{Keeps-then, in_one, may-torn}
@@ -53,6 +53,8 @@ use Rattle.sm_ready.proofs.AfterLaws.{other_keeps}
 use Rattle.sm_ready.proofs.AlikeLaws.{disks_alike}
 use Rattle.sm_ready.proofs.ChainLaws.{might_show, only_crash, tab}
 use Rattle.sm_ready.proofs.CommitLaws.{already}
+use Rattle.sm_ready.proofs.LogLaws.{HoldsLogs, holds_keeps, holds_ready, logged_before}
+use Rattle.sm_standing.specs.Logs.{IsLogged}
 use Rattle.sm_ready.proofs.KeptLaws.{law_kept}
 use Rattle.sm_ready.proofs.FrameLaws.{not_mgt}
 use Rattle.sm_ready.proofs.LabelLaws.{IsToLabel, disks_labelled, firm_labelled, orderly_labelled}
@@ -89,6 +91,7 @@ module _ {S : Type 0} {g : Ghosts S} {b d : S} {m : Memory} (h : IsTold g b m) (
   middle : IsMiddle s t (known m) (g.area b) (g.area d) k next
   middle = record {
     images = λ q i. other_keeps s t (g.area b) (g.area d) Mgt (row_name q) h.orderly.table (extent_some s t (known m) h.orderly) (KeepsElsewhere-same (w.beside h.told)) (not_mgt s t (known m) h.orderly q i);
+    logs = λ v. other_keeps s t (g.area b) (g.area d) Mgt (Cbt v) h.orderly.table (extent_some s t (known m) h.orderly) (KeepsElsewhere-same (w.beside h.told)) (λ same. let x = same in cc);
     records = λ p v below may. ⊎_elim (λ before. inl before)
         (λ puts.
         let long = (sector_fits next proper).long in
@@ -134,14 +137,21 @@ module _ {S : Type 0} {g : Ghosts S} {b d : S} {m : Memory} (h : IsTold g b m) (
             (λ new. inr (already (MayShow s (StoreLeaves g b)) labelled (disks (content_in s t image)) new)) x.1,
       )
 
+  -- and it has the logs of memory
+  held_logs : HoldsLogs s t (g.area b) (known m).logs
+  held_logs = holds_ready s t (g.area b) (known m) h.orderly h.ready
+
+  put_logged : (n : Known) → n.logs ≡ (known m).logs → (v : VolumeTable) (image : ℕ → List ℕ) → IsBefore (area_size s) t (g.area d) v image → IsLogged (content_in s v image) n.logs
+  put_logged n same v image is = subst (IsLogged (content_in s v image)) (sym same) (logged_before (holds_keeps held_logs (g.area d) middle.logs) h.orderly.table v image is)
+
   module _ (choice : (v : VolumeTable) (image : ℕ → List ℕ) → g.leaves d v image → IsChoiceOf (stored g d) v image) where
     left_put_of : (v : VolumeTable) (image : ℕ → List ℕ) → StoreLeaves g d v image → IsBefore (area_size s) t (g.area d) v image
     left_put_of v image l =
         subst₂ (λ y z. IsBefore (area_size y) z (g.area d) v image) w.stays.site w.stays.table (left_choice g.told (g.site d) (tab g d) (g.area d) (g.leaves d) (g.failed d) choice v image l)
 
     -- the write failed
-    pub put_failed : (n : Known) (ok : Type 0) → (ok → ⊥) → HasDone s t (tab g d) (g.area b) (g.area d) n (StoreLeaves g b) (StoreLeaves g d) ok labelled
-    put_failed n ok never = only_crash never (λ v image l. put_crash v image (left_put_of v image l))
+    pub put_failed : (n : Known) (ok : Type 0) → (ok → ⊥) → n.logs ≡ (known m).logs → HasDone s t (tab g d) (g.area b) (g.area d) n (StoreLeaves g b) (StoreLeaves g d) ok labelled
+    put_failed n ok never same = only_crash never (λ v image l. put_crash v image (left_put_of v image l)) (λ v image l. put_logged n same v image (left_put_of v image l))
 
     module _ {e : S} (y : IsSynced g d e) where
       left_end : (v : VolumeTable) (image : ℕ → List ℕ) → StoreLeaves g e v image → IsBefore (area_size s) t (g.area d) v image
@@ -153,8 +163,8 @@ module _ {S : Type 0} {g : Ghosts S} {b d : S} {m : Memory} (h : IsTold g b m) (
       end_crash v image l = put_crash v image (left_end v image l)
 
       -- the sync behind it failed
-      pub end_failed : (n : Known) (ok : Type 0) → (ok → ⊥) → HasDone s t (tab g e) (g.area b) (g.area e) n (StoreLeaves g b) (StoreLeaves g e) ok labelled
-      end_failed n ok never = only_crash never end_crash
+      pub end_failed : (n : Known) (ok : Type 0) → (ok → ⊥) → n.logs ≡ (known m).logs → HasDone s t (tab g e) (g.area b) (g.area e) n (StoreLeaves g b) (StoreLeaves g e) ok labelled
+      end_failed n ok never same = only_crash never end_crash (λ v image l. put_logged n same v image (left_end v image l))
 
       module _ (last : IsSettled (g.area e)) (placed : place_for (known m).places u ≡ Some k) (wrote : Writes g Mgt (Wrote k (record_sector next)) b d) where
         reads_end : reads (g.area e) ≡ reads (g.area d)
@@ -174,6 +184,8 @@ module _ {S : Type 0} {g : Ghosts S} {b d : S} {m : Memory} (h : IsTold g b m) (
           records = agrees_keeps (records_held s t (g.area d)) (records_held s t (g.area e)) (set m.records k (Some next)) (Keeps-volume s.geometry.extent (extents_of (rows t Mgt)) y.keeps)
               (agrees_put m.records next k (records_held s t (g.area b)) (records_held s t (g.area d)) proper (ap (place_for m.records) lab.uuid ∙ placed) (did_in (stays_none b) wrote h.told) h.ready.records);
           recorded = all_quiet s t (g.area e) last Mgt;
+          logs = (holds_keeps held_logs (g.area e) (λ v. Keeps-then (middle.logs v) (Keeps-volume s.geometry.extent (extents_of (rows t (Cbt v))) y.keeps))).logs;
+          logged = λ v. all_quiet s t (g.area e) last (Cbt v);
         }
 
         -- all lasts, with the new label
@@ -186,6 +198,7 @@ module _ {S : Type 0} {g : Ghosts S} {b d : S} {m : Memory} (h : IsTold g b m) (
               (record { long = ready_end.records.long; each = place_reads s t (g.area e) (with_place k next (known m)) (orderly_labelled s t (known m) u text k r h.orderly lab passes) ready_end })
               (images (reads (g.area e)) at_end);
           crash = end_crash;
+          logged = λ v image l. put_logged (with_place k next (known m)) refl v image (left_end v image l);
         }
 
 -- ---- the record of a disk that is named
@@ -286,16 +299,16 @@ module _ {S : Type 0} {g : Ghosts S} {a b d : S} {m : Memory} (h : IsTold g a m)
   disks_are : labelled behind settled u text of.place r of.labelled right passes_still torn ≡ next_disks
   disks_are = ap (λ c. on_disk u (λ (x : Disk). record x { label = text }) (disks c)) (behind_content h y) ∙ sym (label_disks (disks (store_content g a)) (shape_in (g.site a) (tab g a) (known m)) u text)
 
-  pub label_failed : (n : Known) (ok : Type 0) → (ok → ⊥) → HasDone (g.site a) (tab g a) (tab g d) (g.area a) (g.area d) n (StoreLeaves g a) (StoreLeaves g d) ok next_disks
-  label_failed n ok never =
+  pub label_failed : (n : Known) (ok : Type 0) → (ok → ⊥) → n.logs ≡ (known m).logs → HasDone (g.site a) (tab g a) (tab g d) (g.area a) (g.area d) n (StoreLeaves g a) (StoreLeaves g d) ok next_disks
+  label_failed n ok never same =
       behind_sync h y n ok next_disks (subst (λ ds. HasDone (g.site b) (tab g b) (tab g d) (g.area b) (g.area d) n (StoreLeaves g b) (StoreLeaves g d) ok ds) disks_are
-      (put_failed behind settled u text of.place r of.labelled right passes_still torn then n ok never))
+      (put_failed behind settled u text of.place r of.labelled right passes_still torn then n ok never same))
 
   module _ {e : S} (last : IsSynced g d e) where
-    pub label_unsettled : (n : Known) (ok : Type 0) → (ok → ⊥) → HasDone (g.site a) (tab g a) (tab g e) (g.area a) (g.area e) n (StoreLeaves g a) (StoreLeaves g e) ok next_disks
-    label_unsettled n ok never =
+    pub label_unsettled : (n : Known) (ok : Type 0) → (ok → ⊥) → n.logs ≡ (known m).logs → HasDone (g.site a) (tab g a) (tab g e) (g.area a) (g.area e) n (StoreLeaves g a) (StoreLeaves g e) ok next_disks
+    label_unsettled n ok never same =
         behind_sync h y n ok next_disks (subst (λ ds. HasDone (g.site b) (tab g b) (tab g e) (g.area b) (g.area e) n (StoreLeaves g b) (StoreLeaves g e) ok ds) disks_are
-        (end_failed behind settled u text of.place r of.labelled right passes_still torn then last n ok never))
+        (end_failed behind settled u text of.place r of.labelled right passes_still torn then last n ok never same))
 
     pub label_done : IsSettled (g.area e) → Writes g Mgt (Wrote (unwrap_or (place_for m.records row.uuid) 0) (record_sector row)) b d → (n : Known) → n ≡ with_place of.place (relabelled text r) (known m) → (ok : Type 0)
         → HasDone (g.site a) (tab g a) (tab g e) (g.area a) (g.area e) n (StoreLeaves g a) (StoreLeaves g e) ok next_disks

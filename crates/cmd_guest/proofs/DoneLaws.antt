@@ -54,9 +54,14 @@ use Rattle.sm_ready.specs.Framing.{IsBetweenSteps}
 use Rattle.sm_ready.proofs.RoomLaws.{rows_stays}
 use Rattle.sm_ready.specs.Refusing.{IsAllowed}
 use Rattle.sm_ready.specs.Taken.{StoreTakes}
-use Rattle.sm_ready.proofs.LeftLaws.{IsLeft}
-use Rattle.sm_ready.proofs.Orders.{geometry_of}
+use Rattle.sm_ready.proofs.LeftLaws.{IsLeft, extent_some}
+use Rattle.sm_ready.proofs.Orders.{geometry_of, named_row}
 use Rattle.sm_ready.proofs.RestLaws.{true_keeps}
+use Rattle.sm_ready.proofs.AfterLaws.{other_keeps}
+use Rattle.sm_ready.proofs.LogLaws.{holds_keeps, holds_ready, logged_left}
+use Rattle.sm_ready.proofs.LogRows.{name_apart}
+use Rattle.sm_standing.specs.Logs.{IsLogged}
+use Rattle.sm_base.specs.declared.names.Name.TheVariants.{Cbt}
 use Rattle.sm_ready.proofs.TakenLaws.{step_accepted}
 use Rattle.cmd_guest.specs.Taken.{answered}
 use Rattle.sm_ready.proofs.PutBackLaws.{of_rows}
@@ -231,9 +236,16 @@ module _ {S : Type 0} (g : Ghosts S) (a b : S) (m n : Memory) (u : List ℕ) (at
         (subst (λ y. IsKept (content_in s y image) × IsBetween (MayShow s (StoreLeaves g a)) (disks (content_now s t (g.area a))) (on_disk u (over at (length bytes / 512) bytes) (disks (content_now s t (g.area a)))) (disks (content_in s y image))) (sym x.0)
         (stopped image x.1))
 
+    logged : (v : VolumeTable) (image : ℕ → List ℕ) → StoreLeaves g b v image → IsLogged (content_in s v image) (known n).logs
+    logged v image l =
+        let x = left_now v image l in
+        subst (λ y. IsLogged (content_in s y image) (known n).logs) (sym x.0) (logged_left (holds_keeps (holds_ready s t (g.area a) (known m) orderly ready) (g.area b)
+        (λ w. other_keeps s t (g.area a) (g.area b) (row_name r) (Cbt w) orderly.table (extent_some s t (known m) orderly) (works.elsewhere told) (name_apart (row_name r) (named_row s t (known m) r orderly own.there) w)))
+        orderly.table image x.1)
+
     -- it failed
     pub write_stopped : (f : Failed) → StoreTakes g (Write u at bytes) a m b n (Err f)
-    write_stopped f = record { reply = tt; ready = tt; settled = tt; crash = crash }
+    write_stopped f = record { reply = tt; ready = tt; settled = tt; crash = crash; logged = logged }
 
     -- and it did its work
     module _ (is : new ≡ written s.geometry.block at (length bytes) r.image) (stands : StandsIn s.geometry (size_of s t (row_name r)) new)
@@ -288,6 +300,7 @@ module _ {S : Type 0} (g : Ghosts S) (a b : S) (m n : Memory) (u : List ℕ) (at
         ready = subst (λ (y : VolumeTable). IsReady s y (g.area b) (known n)) (sym works.stays.table) (subst (IsReady s t (g.area b)) (sym memory) ready_now);
         settled = λ yes settles. absurd (true≢false (sym settles));
         crash = crash;
+        logged = logged;
       }
 
     -- whichever

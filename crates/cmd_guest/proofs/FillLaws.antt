@@ -89,4 +89,4 @@ pub fill_taken : {S : Type 0} (g : Ghosts S) (a b : S) (m k : Memory) (u : List 
 unfolding is_settling
 fill_taken g a b m k u at n byte result allowed taken =
     subst (λ (o : Outcome). StoreTakesTo o g (Fill u at n byte) a m b k result) (sym (fill_is (store_state g a m) u at n byte allowed))
-    (record { reply = taken.reply; ready = taken.ready; settled = taken.settled; crash = taken.crash })
+    (record { reply = taken.reply; ready = taken.ready; settled = taken.settled; crash = taken.crash; logged = taken.logged })

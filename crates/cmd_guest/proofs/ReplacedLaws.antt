@@ -9,7 +9,7 @@ use Rattle.common_laws.specs.Lists.{In, when}
 use Rattle.common_laws.proofs.Bytes.{bytes_eq-same}
 use Rattle.common_laws.proofs.Lists.{Distinct-key, In-map, In-map_at}
 use Rattle.sm_base.specs.declared.names.Name.{Name}
-use Rattle.sm_base.specs.declared.names.Name.TheVariants.{Mgt, Vhd}
+use Rattle.sm_base.specs.declared.names.Name.TheVariants.{Mgt, Vhd, Cbt}
 use Rattle.sm_machine.specs.Operations.{Op, dirtied}
 use Rattle.sm_machine.specs.Operations as op
 use Rattle.sm_disk.specs.Held.{Held, Keeps, reads}
@@ -48,6 +48,8 @@ use Rattle.sm_ready.proofs.StopLaws.{image_by_sectors}
 use Rattle.sm_ready.proofs.LeftLaws.{extent_some, now_sector}
 use Rattle.sm_ready.proofs.OperationLaws.{WorksAt, below_alike}
 use Rattle.sm_ready.proofs.RestLaws.{agrees_keeps, steady_keeps}
+use Rattle.sm_ready.proofs.LogLaws.{HoldsLogs, holds_keeps, holds_ready}
+use Rattle.sm_ready.proofs.LogRows.{name_apart}
 use Rattle.sm_ready.proofs.ShapeLaws.{mgt_image, shown_same}
 use Rattle.sm_ready.proofs.HeldLaws.{IsChildWritten, held_written}
 use Rattle.sm_ready.proofs.KeptLaws.{vhd_named}
@@ -237,6 +239,10 @@ module _ (s : Site) (t : VolumeTable) (m : Known) (u : List ℕ) (r q : TreeRow)
         few = o.few;
         new_named = o.new_named;
         images = λ n is. o.images n is ∙ sym (face_replaced s t m o r q h.there like.name like.hidden like.extents n);
+        logs = o.logs;
+        few_logs = o.few_logs;
+        logs_in_order = o.logs_in_order;
+        log_room = o.log_room;
         places = o.places;
         entries = o.entries ∙ sym (entry_written (blocks_touched (shape_in s t m) sector count) m.op);
         stands = λ x i. ⊎_elim (λ old. o.stands x old.0) (λ new. subst (λ (y : TreeRow). StandsIn s.geometry (y.extents * s.geometry.extent) y.image) (sym new) stands) (of_rows s t m o r q h.there like.name x i);
@@ -323,7 +329,12 @@ module _ (s : Site) (t : VolumeTable) (m : Known) (u : List ℕ) (r q : TreeRow)
         };
         records = agrees_keeps (records_held s t old) (records_held s t new) m.places (others Mgt record_apart) ready.records;
         recorded = quiet_keeps (others Mgt record_apart) ready.recorded;
+        logs = held_logs.logs;
+        logged = held_logs.quiet;
       }
         where
+          held_logs : HoldsLogs s t new m.logs
+          held_logs = holds_keeps (holds_ready s t old m o ready) new (λ v. others (Cbt v) (name_apart (row_name r) (named_row s t m r o h.there) v))
+
           record_apart : Mgt ≢ row_name r
           record_apart same = true≢false (sym (named_row s t m r o h.there) ∙ ap is_image_name (sym same) ∙ mgt_image)

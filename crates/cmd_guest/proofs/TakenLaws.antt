@@ -7,7 +7,7 @@ use Rattle.std.proofs.Props.{props}
 use Rattle.std.proofs.lemmas.Bool.{true≢false}
 use Rattle.sm_base.specs.declared.faults.Failed.{Failed}
 use Rattle.sm_base.specs.declared.refusals.Refusal.TheVariants.{NoMemory}
-use Rattle.sm_base.specs.declared.names.Name.TheVariants.{Mgt}
+use Rattle.sm_base.specs.declared.names.Name.TheVariants.{Mgt, Cbt}
 use Rattle.sm_disk.specs.Held.{Held, Allows, Keeps, IsSettled}
 use Rattle.sm_disk.proofs.HeldLaws.{Allows-keeps}
 use Rattle.vg_meta.specs.Roomy.{table_alone}
@@ -40,6 +40,8 @@ use Rattle.sm_ready.specs.Stores.{MayShow, StoreLeaves, content_in, store_conten
 use Rattle.sm_ready.specs.declared.memory.Memory.{Memory}
 use Rattle.sm_ready.proofs.CommitLaws.{IsSafe, ready_safe}
 use Rattle.sm_ready.proofs.RestLaws.{agrees_keeps, steady_keeps}
+use Rattle.sm_ready.proofs.LogLaws.{holds_ready, logged_before}
+use Rattle.sm_standing.specs.Logs.{IsLogged}
 use Rattle.sm_ready.proofs.TakenLaws.{step_accepted}
 use Rattle.sm_ready.specs.Taken.{StoreTakes}
 use Rattle.cmd_guest.specs.Taken.{answered}
@@ -71,6 +73,8 @@ ready_keeps s t old new m keeps ready = record {
   };
   records = agrees_keeps (records_held s t old) (records_held s t new) m.places (Keeps-volume s.geometry.extent (extents_of (rows t Mgt)) keeps) ready.records;
   recorded = quiet_keeps (Keeps-volume s.geometry.extent (extents_of (rows t Mgt)) keeps) ready.recorded;
+  logs = subst (λ (f : ℕ → List ℕ). IsLogged (content_in s t f) m.logs) (sym (fun_ext keeps.reads)) ready.logs;
+  logged = λ v. quiet_keeps (Keeps-volume s.geometry.extent (extents_of (rows t (Cbt v))) keeps) (ready.logged v);
 }
 
 -- ---- a call that changed nothing that a read gives
@@ -103,6 +107,9 @@ module _ {S : Type 0} (g : Ghosts S) (a b : S) (m : Memory) (c : Command) (order
       subst (λ y. IsKept (content_in (g.site a) y image) × IsBetween (MayShow (g.site a) (StoreLeaves g a)) (disks (store_content g a)) ((step (store_state g a m) c).after).disks (disks (content_in (g.site a) y image))) (sym here.table_is)
       (safe.kept image here.sectors, inl (safe.shown image here.sectors))
 
+  logged : (v : VolumeTable) (image : ℕ → List ℕ) → StoreLeaves g b v image → IsLogged (content_in (g.site a) v image) (known m).logs
+  logged v image l = logged_before (holds_ready (g.site a) (table_alone (g.table a)) (g.area a) (known m) orderly ready) orderly.table v image (before v image l)
+
   pub taken_keeps : (result : Result Reply Failed) → IfOk result (λ r. (r ≡ No NoMemory) ⊎ (r ≡ (step (store_state g a m) c).reply)) → (step (store_state g a m) c).after ≡ store_state g a m
       → IfOk result (λ r. is_accepted r ≡ true → is_settling c ≡ true → IsSettled (g.area b)) → StoreTakes g c a m b m result
   taken_keeps (Ok r) answer same settled = record {
@@ -110,8 +117,9 @@ module _ {S : Type 0} (g : Ghosts S) (a b : S) (m : Memory) (c : Command) (order
     ready = still;
     settled = settled;
     crash = crash;
+    logged = logged;
   }
-  taken_keeps (Err f) answer same settled = record { reply = tt; ready = tt; settled = tt; crash = crash }
+  taken_keeps (Err f) answer same settled = record { reply = tt; ready = tt; settled = tt; crash = crash; logged = logged }
 
 -- a command that changes neither disks nor shape leaves the state
 pub whole_still : (σ : State) (c : Command) → refusal σ.shape c ≡ None → σ.shape.sequence < 2 ^ 48 → is_given_up σ.shape c ≡ false → own_commits σ.shape c ≡ 0 → disks_next σ.disks σ.shape c ≡ σ.disks → shape_after σ.shape c ≡ σ.shape

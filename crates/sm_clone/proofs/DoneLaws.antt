@@ -1,5 +1,5 @@
 -- The calls of a fork as one run: what each part of them did, why each moment is fine, and what was done once all of them succeeded.
-use Rattle.std.proofs.Common.{◌≡◌, ◌≢◌, inr, ℕ, ◌-◌, true, false, List, [], ◌∷◌, ◌++◌, length, unwrap_or, Option, Some, refl, sym, ap, ap₂, ◌∙◌, subst, subst₂, arith}
+use Rattle.std.proofs.Common.{◌≡◌, ◌≢◌, inr, ℕ, ◌-◌, Bool, true, false, List, [], ◌∷◌, ◌++◌, length, unwrap_or, Option, Some, refl, sym, ap, ap₂, ◌∙◌, subst, subst₂, arith}
 use Rattle.std.proofs.lemmas.Option.{same_Some}
 use Rattle.std.proofs.lemmas.Map.Entries.{lookup_head, lookup_tail}
 use Rattle.sm_base.specs.Names.{base_uuid}
@@ -31,7 +31,8 @@ use Rattle.sm_ready.specs.Sessions.{IsReadyStore}
 use Rattle.sm_ready.specs.Stores.{Leaving, MayShow, StoreLeaves, store_content}
 use Rattle.sm_ready.specs.declared.memory.Memory.{Memory}
 use Rattle.sm_ready.proofs.ChainLaws.{might_show, tab}
-use Rattle.sm_ready.proofs.CommitLaws.{IsSafe, ready_safe}
+use Rattle.sm_ready.proofs.CommitLaws.{ready_safe}
+use Rattle.sm_ready.proofs.LogLaws.{holds_ready, logged_left}
 use Rattle.sm_calls.specs.Calls.{Call, DoesRun, GoesWell, IsFine, IsReadyWith, ShowsBetween, commits}
 use Rattle.sm_calls.proofs.StoreLaws.{law_run, ready_fine, run_front, run_then, run_works, safe_fine}
 use Rattle.sm_clone.specs.Forking.{CanFork, IsBesideFork, IsFilled, IsUsedAs, base_body, base_name, child_head, fill_call, first_changes, fork_calls, fork_of, forking, last_changes, own_uid, sectors_of, table_begun, twin_record, twin_uid}
@@ -43,7 +44,7 @@ use Rattle.sm_clone.proofs.ForkOrderly.{forked_table, orderly_then}
 use Rattle.sm_clone.proofs.ForkRows.{base_not_leaf, base_not_own}
 use Rattle.sm_clone.proofs.ForkedLaws.{IsForkedMemory, known_is, placed}
 use Rattle.sm_clone.proofs.MakingLaws.{twin_uuid}
-use Rattle.sm_clone.proofs.MomentLaws.{IsMomentTable, moment_safe}
+use Rattle.sm_clone.proofs.MomentLaws.{IsMomentArea, IsMomentTable, moment_logged, moment_safe}
 use Rattle.sm_clone.proofs.PassedLaws.{found, own as own_of}
 use Rattle.sm_clone.proofs.ShapeLaws.{known_then}
 use Rattle.sm_clone.proofs.TableLaws as tables
@@ -175,10 +176,22 @@ module _ {S : Type 0} {g : Ghosts S} {a : S} {m : Memory} {f : Fork} {p : Parts}
 
   -- ---- among the first commits
 
-  safe_front : (v : VolumeTable) (n : Name) → IsMomentTable s t (known m) f.disk f.twin entry.read_only can.session.orderly can.session.tidy can.allowed (g.area a) ready k_now can.origin (placed can) v n false
-      → IsSafe s v rest before was
-  safe_front v n h = moment_safe s t (known m) f.disk f.twin entry.read_only can.session.orderly can.session.tidy can.allowed (g.area a) ready k_now can.origin (placed can) can.kept_up v n false rest before h
-      (area_front s t (known m) f.disk f.twin entry.read_only can.session.orderly can.session.tidy can.allowed (g.area a) ready k_now can.origin (placed can) v n h.same) might
+  abbrev Moment : VolumeTable → Name → Bool → Type 0
+  Moment = IsMomentTable s t (known m) f.disk f.twin entry.read_only can.session.orderly can.session.tidy can.allowed (g.area a) ready k_now can.origin (placed can)
+
+  abbrev Area : VolumeTable → Name → Bool → Held → Type 0
+  Area = IsMomentArea s t (known m) f.disk f.twin entry.read_only can.session.orderly can.session.tidy can.allowed (g.area a) ready k_now can.origin (placed can)
+
+  abbrev Fine : VolumeTable → Held → Type 0
+  Fine v area = IsFine (ShowsBetween s before was then (known m).logs) (record { site = s; table = v; area = area })
+
+  moment_fine : (v : VolumeTable) (n : Name) (written : Bool) (area : Held) → Moment v n written → Area v n written area → Fine v area
+  moment_fine v n written area h x = safe_fine (known m).logs then
+      (moment_safe s t (known m) f.disk f.twin entry.read_only can.session.orderly can.session.tidy can.allowed (g.area a) ready k_now can.origin (placed can) can.kept_up v n written area before h x might)
+      (moment_logged s t (known m) f.disk f.twin entry.read_only can.session.orderly can.session.tidy can.allowed (g.area a) ready k_now can.origin (placed can) v n written area h.same x)
+
+  front_fine : (v : VolumeTable) (n : Name) → Moment v n false → Fine v rest
+  front_fine v n h = moment_fine v n false rest h (area_front s t (known m) f.disk f.twin entry.read_only can.session.orderly can.session.tidy can.allowed (g.area a) ready k_now can.origin (placed can) v n h.same)
 
   -- ---- what it makes
 
@@ -202,12 +215,10 @@ module _ {S : Type 0} {g : Ghosts S} {a : S} {m : Memory} {f : Fork} {p : Parts}
     -- ---- among the last commits
 
     module _ (area : Held) (did : IsBesideFork s table_5 fork_now rest area k_now entry_now) where
-      safe_5 : IsSafe s table_5 area before was
-      safe_5 = moment_safe s t (known m) f.disk f.twin entry.read_only can.session.orderly can.session.tidy can.allowed (g.area a) ready k_now can.origin (placed can) can.kept_up table_5 (base_name fork_now) false
-          area before (moment_5 s t (known m) f.disk f.twin entry.read_only can.session.orderly can.session.tidy can.allowed can.kept_up sectors own twins can.extents (twin_uuid can)
-          (g.area a) ready k_now can.origin (placed can)) (area_fill s t (known m) f.disk f.twin entry.read_only can.session.orderly can.session.tidy can.allowed (g.area a) ready k_now can.origin (placed can) table_5 area
-          (moment_5 s t (known m) f.disk f.twin entry.read_only can.session.orderly can.session.tidy can.allowed can.kept_up sectors own twins can.extents (twin_uuid can)
-          (g.area a) ready k_now can.origin (placed can)).same did) might
+      fine_5 : Fine table_5 area
+      fine_5 =
+          let h = moment_5 s t (known m) f.disk f.twin entry.read_only can.session.orderly can.session.tidy can.allowed can.kept_up sectors own twins can.extents (twin_uuid can) (g.area a) ready k_now can.origin (placed can) in
+          moment_fine table_5 (base_name fork_now) false area h (area_fill s t (known m) f.disk f.twin entry.read_only can.session.orderly can.session.tidy can.allowed (g.area a) ready k_now can.origin (placed can) table_5 area h.same did)
 
       module _ (done : IsFilled s table_5 (child_head s.geometry f.disk now (base_uuid (table_5.sequence - 1)) own_image) (child_head s.geometry f.twin now (base_uuid table_5.sequence) own_image) k_now entry_now rest area) where
         filled : IsFilled s table_5 (child_head s.geometry f.disk now (own_uid t) own_image) (child_head s.geometry f.twin now (twin_uid t) own_image) k_now entry_now rest area
@@ -219,17 +230,17 @@ module _ {S : Type 0} {g : Ghosts S} {a : S} {m : Memory} {f : Fork} {p : Parts}
         abbrev end : Held
         end = at_rest (reads area)
 
-        safe_6 : IsSafe s table_6 end before was
-        safe_6 = moment_safe s t (known m) f.disk f.twin entry.read_only can.session.orderly can.session.tidy can.allowed (g.area a) ready k_now can.origin (placed can) can.kept_up table_6 (base_name fork_now) true end before
+        fine_6 : Fine table_6 end
+        fine_6 = moment_fine table_6 (base_name fork_now) true end
             (moment_6 s t (known m) f.disk f.twin entry.read_only can.session.orderly can.session.tidy can.allowed can.kept_up sectors own twins can.extents (twin_uuid can) (g.area a) ready k_now can.origin (placed can))
             (ended.area_6 s t (known m) f.disk f.twin entry.read_only can.session.orderly can.session.tidy can.allowed can.kept_up sectors own twins can.extents (twin_uuid can)
-            (g.area a) ready k_now can.origin (placed can) now area did filled) might
+            (g.area a) ready k_now can.origin (placed can) now area did filled)
 
-        safe_7 : IsSafe s table_7 end before was
-        safe_7 = moment_safe s t (known m) f.disk f.twin entry.read_only can.session.orderly can.session.tidy can.allowed (g.area a) ready k_now can.origin (placed can) can.kept_up table_7 (base_name fork_now) true end before
+        fine_7 : Fine table_7 end
+        fine_7 = moment_fine table_7 (base_name fork_now) true end
             (moment_7 s t (known m) f.disk f.twin entry.read_only can.session.orderly can.session.tidy can.allowed can.kept_up sectors own twins can.extents (twin_uuid can) (g.area a) ready k_now can.origin (placed can))
             (ended.area_7 s t (known m) f.disk f.twin entry.read_only can.session.orderly can.session.tidy can.allowed can.kept_up sectors own twins can.extents (twin_uuid can)
-            (g.area a) ready k_now can.origin (placed can) now area did filled) might
+            (g.area a) ready k_now can.origin (placed can) now area did filled)
 
         module _ (used : Attached) (uses : IsUsedAs fork_now m.attached used) where
           orderly_8 : IsOrderly s table_8 (memory_then used uses)
@@ -240,39 +251,40 @@ module _ {S : Type 0} {g : Ghosts S} {a : S} {m : Memory} {f : Fork} {p : Parts}
           last_ready : IsReadyWith (memory_then used uses) then (record { site = s; table = table_8; area = end })
           last_ready = record {
             ready = ended.ready_ended s t (known m) f.disk f.twin entry.read_only can.session.orderly can.session.tidy can.allowed can.kept_up sectors own twins can.extents (twin_uuid can)
-                (g.area a) ready k_now can.origin (placed can) now area did filled right (memory_then used uses) refl refl refl;
+                (g.area a) ready k_now can.origin (placed can) now area did filled right (memory_then used uses) refl refl refl refl;
             settled = λ p. refl;
             shown = ended.disks_ended s t (known m) f.disk f.twin entry.read_only can.session.orderly can.session.tidy can.allowed can.kept_up sectors own twins can.extents (twin_uuid can)
                 (g.area a) ready k_now can.origin (placed can) now area did filled right can.recorded;
           }
 
-          last_fine : IsFine (ShowsBetween s before was then) (record { site = s; table = table_8; area = end })
+          last_fine : Fine table_8 end
           last_fine = ready_fine s table_8 (memory_then used uses) (reads area) before was then orderly_8 last_ready.ready last_ready.shown
 
     -- ---- each moment is fine
 
     module _ (used : Attached) (uses : IsUsedAs fork_now m.attached used) where
-      well : GoesWell (ShowsBetween s before was then) (IsReadyWith (memory_then used uses) then) (stored g a) calls
+      well : GoesWell (ShowsBetween s before was then (known m).logs) (IsReadyWith (memory_then used uses) then) (stored g a) calls
       well = record {
-        first = safe_fine then (ready_safe s t (g.area a) (known m) before can.session.orderly ready (λ image is. inr (told, can.session.usable, is)));
+        first = safe_fine (known m).logs then (ready_safe s t (g.area a) (known m) before can.session.orderly ready (λ image is. inr (told, can.session.usable, is)))
+            (logged_left (holds_ready s t (g.area a) (known m) can.session.orderly ready) can.session.orderly.table);
         next = (
-          safe_fine then (safe_front table_1 fork_now.own (moment_1 s t (known m) f.disk f.twin entry.read_only can.session.orderly can.session.tidy can.allowed can.kept_up sectors own twins can.extents (twin_uuid can)
-              (g.area a) ready k_now can.origin (placed can))),
+          front_fine table_1 fork_now.own (moment_1 s t (known m) f.disk f.twin entry.read_only can.session.orderly can.session.tidy can.allowed can.kept_up sectors own twins can.extents (twin_uuid can)
+              (g.area a) ready k_now can.origin (placed can)),
           (
-            safe_fine then (safe_front table_2 (base_name fork_now) (moment_2 s t (known m) f.disk f.twin entry.read_only can.session.orderly can.session.tidy can.allowed can.kept_up sectors own twins can.extents
-                (twin_uuid can) (g.area a) ready k_now can.origin (placed can))),
+            front_fine table_2 (base_name fork_now) (moment_2 s t (known m) f.disk f.twin entry.read_only can.session.orderly can.session.tidy can.allowed can.kept_up sectors own twins can.extents
+                (twin_uuid can) (g.area a) ready k_now can.origin (placed can)),
             (
-              safe_fine then (safe_front table_3 (base_name fork_now) (moment_3 s t (known m) f.disk f.twin entry.read_only can.session.orderly can.session.tidy can.allowed can.kept_up sectors own twins can.extents
-                  (twin_uuid can) (g.area a) ready k_now can.origin (placed can))),
+              front_fine table_3 (base_name fork_now) (moment_3 s t (known m) f.disk f.twin entry.read_only can.session.orderly can.session.tidy can.allowed can.kept_up sectors own twins can.extents
+                  (twin_uuid can) (g.area a) ready k_now can.origin (placed can)),
               (
-                safe_fine then (safe_front table_4 (base_name fork_now) (moment_4 s t (known m) f.disk f.twin entry.read_only can.session.orderly can.session.tidy can.allowed can.kept_up sectors own twins can.extents
-                    (twin_uuid can) (g.area a) ready k_now can.origin (placed can))),
+                front_fine table_4 (base_name fork_now) (moment_4 s t (known m) f.disk f.twin entry.read_only can.session.orderly can.session.tidy can.allowed can.kept_up sectors own twins can.extents
+                    (twin_uuid can) (g.area a) ready k_now can.origin (placed can)),
                 (
-                  safe_fine then (safe_front table_5 (base_name fork_now) (moment_5 s t (known m) f.disk f.twin entry.read_only can.session.orderly can.session.tidy can.allowed can.kept_up sectors own twins can.extents
-                      (twin_uuid can) (g.area a) ready k_now can.origin (placed can))),
+                  front_fine table_5 (base_name fork_now) (moment_5 s t (known m) f.disk f.twin entry.read_only can.session.orderly can.session.tidy can.allowed can.kept_up sectors own twins can.extents
+                      (twin_uuid can) (g.area a) ready k_now can.origin (placed can)),
                   (
-                    λ area did. safe_fine then (safe_5 area did),
-                    λ area did done. (safe_fine then (safe_6 area did done), (safe_fine then (safe_7 area did done), (last_fine area did done used uses, last_ready area did done used uses))),
+                    λ area did. fine_5 area did,
+                    λ area did done. (fine_6 area did done, (fine_7 area did done, (last_fine area did done used uses, last_ready area did done used uses))),
                   ),
                 ),
               ),
@@ -295,12 +307,14 @@ module _ {S : Type 0} {g : Ghosts S} {a : S} {m : Memory} {f : Fork} {p : Parts}
           (subst₂ (λ (y : Fork) (x : Body). DoesRun g (fork_calls s t y own twins now x k_now entry) a z ok) can.fork image_is run)
 
       -- one of the calls failed
-      pub fork_failed : {z : S} (n : Known) (ok : Type 0) → (ok → ⊥) → DoesRun g (fork_calls s t f own twins now image k_now entry) a z ⊥ → HasDoneFrom s (tab g z) (g.area z) n before (StoreLeaves g z) ok was then
-      fork_failed n ok never run = law_run n told (run_now run) (well (used_as fork_now m.attached)
+      pub fork_failed : {z : S} (n : Known) → n.logs ≡ (known m).logs → (ok : Type 0) → (ok → ⊥) → DoesRun g (fork_calls s t f own twins now image k_now entry) a z ⊥ → HasDoneFrom s (tab g z) (g.area z) n before (StoreLeaves g z) ok was then
+      fork_failed n same ok never run = law_run n told (run_now run) (well (used_as fork_now m.attached)
           (is_used_as fork_now m.attached (base_not_leaf s t (known m) f.disk f.twin entry.read_only can.session.orderly can.session.tidy can.allowed)
-          (base_not_own s t (known m) f.disk f.twin entry.read_only can.session.orderly can.session.tidy can.allowed))) (λ fine. absurd (never fine))
+          (base_not_own s t (known m) f.disk f.twin entry.read_only can.session.orderly can.session.tidy can.allowed))) same (λ fine. absurd (never fine))
 
       -- all of them succeeded: the store is ready, and shows the machine's disks
       pub fork_done : {z : S} (n : Memory) (ok : Type 0) → DoesRun g (fork_calls s t f own twins now image k_now entry) a z (Unit {0})
           → (memory : IsForkedMemory s t m n f (length own) (length twins) entry now) → HasDoneFrom s (tab g z) (g.area z) (known n) before (StoreLeaves g z) ok was then
-      fork_done n ok run memory = law_run (known n) told (run_now run) (well n.attached (subst (λ (x : Fork). IsUsedAs x m.attached n.attached) can.fork memory.uses)) (λ fine. (tt, known_is can n now run.site (run.table tt) memory))
+      fork_done n ok run memory =
+          let is = known_is can n now run.site (run.table tt) memory in
+          law_run (known n) told (run_now run) (well n.attached (subst (λ (x : Fork). IsUsedAs x m.attached n.attached) can.fork memory.uses)) (ap (λ (k : Known). k.logs) is) (λ fine. (tt, is))

@@ -12,7 +12,7 @@ use Rattle.common_laws.proofs.Bytes.{bytes_eq-refl, bytes_eq-same}
 use Rattle.common_laws.proofs.Lists.{Distinct-key, In-filter, filter-In, find-only, find-some, numbers-In}
 use Rattle.sm_base.specs.Names.{IsUuid}
 use Rattle.sm_base.specs.declared.names.Name.{Name}
-use Rattle.sm_base.specs.declared.names.Name.TheVariants.{Mgt, Vhd}
+use Rattle.sm_base.specs.declared.names.Name.TheVariants.{Mgt, Vhd, Cbt}
 use Rattle.sm_disk.specs.Held.{Held, Keeps, reads}
 use Rattle.sm_disk.proofs.HeldLaws.{Keeps-then}
 use Rattle.vg_meta.specs.Changes.{made}
@@ -44,6 +44,7 @@ use Rattle.sm_standing.specs.Apart.{is_apart}
 use Rattle.sm_standing.specs.Contents.{Content, is_record_of, reading_at, record_count, record_of, records, taken as taken_of}
 use Rattle.sm_standing.specs.Entries.{of_row}
 use Rattle.sm_standing.specs.Forks.{IsForkable, IsForked, forked}
+use Rattle.sm_standing.specs.Logs.{IsLogged}
 use Rattle.sm_standing.specs.Standing.{disk_at, disk_in, disks}
 use Rattle.sm_standing.proofs.DiskLists.{at_disks, disks_at}
 use Rattle.sm_standing.proofs.ForkLaws.{fork_ended, made_disk}
@@ -359,8 +360,8 @@ module _ (s : Site) (t : VolumeTable) (m : Known) (u twin : List ℕ) (read_only
 
     -- the store is ready, with these images and places in memory
     pub ready_ended : IsRecord entry → (next : Known) → next.rows ≡ rows_then s t m u twin read_only o tidy passes now (length own) (length twins) → next.places ≡ set m.places k (Some entry)
-        → next.op ≡ m.op → IsReady s table_8 end next
-    ready_ended right next rows_are places_are op_is = record {
+        → next.op ≡ m.op → next.logs ≡ m.logs → IsReady s table_8 end next
+    ready_ended right next rows_are places_are op_is logs_are = record {
       firm = record {
         images = λ r i. by_row s t m u twin read_only o tidy passes now (length own) (length twins) (λ q. IsSteady s.geometry (q.extents * extent) (volume_of s table_8 end (row_name q)) q.image)
             base_steady
@@ -373,4 +374,6 @@ module _ (s : Site) (t : VolumeTable) (m : Known) (u twin : List ℕ) (read_only
       };
       records = subst (Agrees (records_held s table_8 end)) (sym places_are) (agrees_end right);
       recorded = volume_rested s table_8 (reads filled) Mgt;
+      logs = subst (IsLogged after_it) (sym logs_are) (moments.moment_logged s t m u twin read_only o tidy passes old ready k origin placed table_8 (base_name f) true end same_8 area_8 (reads end) left);
+      logged = λ d. volume_rested s table_8 (reads filled) (Cbt d);
     }

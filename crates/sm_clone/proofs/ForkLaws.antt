@@ -13,7 +13,7 @@ use Rattle.sm_record.specs.declared.records.Record.{Record}
 use Rattle.sm_mgt.specs.Places.{record_in}
 use Rattle.sm_standing.specs.Standing.{disks}
 use Rattle.sm_ready.specs.Done.{HasDoneFrom}
-use Rattle.sm_ready.specs.Known.{Known, machine_record, shape_in}
+use Rattle.sm_ready.specs.Known.{Known, known, machine_record, shape_in}
 use Rattle.sm_ready.specs.Orderly.{IsOrderly}
 use Rattle.sm_ready.specs.Ready.{IsTidy}
 use Rattle.sm_ready.specs.Sessions.{IsOrderlyStore, IsReadyStore}
@@ -30,8 +30,8 @@ record_named s t m u r o tidy is =
 
 -- a call that only read changed no disk, whatever it was to change
 pub poor_done : {S : Type 0} {g : Ghosts S} {a b : S} (m : Memory) → IsOrderlyStore g a m → g.failed a ≡ false → g.told → IsReadyStore g a m → ((v : VolumeTable) (image : ℕ → List ℕ) → g.leaves a v image → IsChoiceOf (stored g a) v image)
-    → OnlyReads g a b → g.area b ≡ g.area a → ((v : VolumeTable) (image : ℕ → List ℕ) → g.leaves b v image → g.leaves a v image) → (n : Known) (ok : Type 0) (ds : List Disk) → (ok → ⊥)
+    → OnlyReads g a b → g.area b ≡ g.area a → ((v : VolumeTable) (image : ℕ → List ℕ) → g.leaves b v image → g.leaves a v image) → (n : Known) (ok : Type 0) (ds : List Disk) → (ok → ⊥) → n.logs ≡ (known m).logs
     → HasDoneFrom (g.site a) (tab g b) (g.area b) n (StoreLeaves g a) (StoreLeaves g b) ok (disks (store_content g a)) ds
-poor_done {g = g} m orderly usable told ready now reads area fewer n ok ds never = only_crash never (λ v image l.
-    let c = (only_read m orderly usable told ready now reads area fewer n ok never).crash v image l in
-    (c.0, still_before ds _ (might_show g usable told) c.1))
+poor_done {g = g} m orderly usable told ready now reads area fewer n ok ds never same =
+    let done = only_read m orderly usable told ready now reads area fewer n ok never same in
+    only_crash never (λ v image l. let c = done.crash v image l in (c.0, still_before ds _ (might_show g usable told) c.1)) done.logged

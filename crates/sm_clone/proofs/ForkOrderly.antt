@@ -41,6 +41,7 @@ use Rattle.sm_standing.proofs.DisksShown.{row_of-In}
 use Rattle.sm_ready.specs.Known.{Face, Known, machine_row, row_face, shape_in, tree_face}
 use Rattle.sm_ready.specs.Orderly.{IsOrderly, IsRoomyFor, IsRoomyIn}
 use Rattle.sm_ready.specs.Ready.{IsTidy}
+use Rattle.sm_ready.proofs.LogRows.{image_apart, name_apart}
 use Rattle.sm_ready.proofs.NewLaws.{well_target}
 use Rattle.sm_ready.proofs.OperationLaws.{WorksAt}
 use Rattle.sm_ready.proofs.Orders.{filled_face}
@@ -318,6 +319,11 @@ module _ (s : Site) (t : VolumeTable) (m : Known) (u twin : List ℕ) (read_only
       few = v.few;
       new_named = λ r i fresh. absurd (true≢false (sym fresh ∙ none_new r i));
       images = same_image;
+      logs = λ d. ap row_face (v.others (name.Cbt d) (name_apart (base_name f) (base_image s t m u twin read_only o tidy passes) d) (image_apart (name.Vhd u) refl d)
+          (image_apart (name.Vhd twin) refl d) (name_apart f.own (own_image_name s t m u twin read_only o tidy passes) d)) ∙ o.logs d;
+      few_logs = o.few_logs;
+      logs_in_order = o.logs_in_order;
+      log_room = o.log_room;
       places = length-set m.places k _ ∙ o.places;
       entries = v.entries ∙ o.entries;
       stands = stands_then s t m u twin read_only o tidy passes now (length own_es) (length twins)

@@ -1,6 +1,6 @@
 -- What holds of a store and of memory once a fork is made that may be made: table and memory are orderly and tidy, the images are
 -- those of the fork and true, and the shape is the machine's.
-use Rattle.std.proofs.Common.{◌≡◌, ℕ, ◌+◌, List, length, set, slice_set, unwrap_or, Option, Some, None, IsSome, refl, sym, ap, ap₂, ◌∙◌, subst, subst₂, arith}
+use Rattle.std.proofs.Common.{◌≡◌, ℕ, ◌+◌, List, [], length, set, slice_set, unwrap_or, Option, Some, None, IsSome, refl, sym, ap, ap₂, ◌∙◌, subst, subst₂, arith}
 use Rattle.std.proofs.lemmas.Option.{same_Some}
 use Rattle.sm_machine.specs.Operations.{Op}
 use Rattle.vg_meta.specs.Tables.{VolumeTable}
@@ -92,7 +92,7 @@ module _ {S : Type 0} {g : Ghosts S} {a : S} {m : Memory} {f : Fork} {p : Parts}
 
     pub known_is : known n ≡ memory_then
     known_is =
-        ap₂ (λ (rs : List TreeRow) (ps : List (Option Record)). let x : Known = record { rows = rs; places = ps; attached = n.attached; op = n.operation } in x) there.rows
+        ap₂ (λ (rs : List TreeRow) (ps : List (Option Record)). let x : Known = record { rows = rs; places = ps; logs = []; attached = n.attached; op = n.operation } in x) there.rows
         (there.records ∙ ap (λ (r : Record). set m.records k (Some r)) can.entry_is)
         ∙ ap (λ (o : Op). let x : Known = record memory_then { op = o } in x) there.others
 

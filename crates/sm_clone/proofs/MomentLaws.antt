@@ -5,7 +5,7 @@ use Rattle.std.proofs.lemmas.Option.{none-some, same_Some}
 use Rattle.common_laws.specs.Lists.{In, ◌>>=◌}
 use Rattle.common_laws.proofs.Bytes.{bytes_eq-apart}
 use Rattle.sm_base.specs.declared.names.Name.{Name}
-use Rattle.sm_base.specs.declared.names.Name.TheVariants.{Mgt, Vhd, Raw, Clone, Relink}
+use Rattle.sm_base.specs.declared.names.Name.TheVariants.{Mgt, Vhd, Raw, Cbt, Clone, Relink}
 use Rattle.sm_disk.specs.Held.{Allows, Held, Keeps, May, reads}
 use Rattle.vg_meta.specs.Tables.{IsTable, Row, VolumeTable, extents_of, rows}
 use Rattle.vg_meta.proofs.RowLaws.{row_of-name}
@@ -35,6 +35,7 @@ use Rattle.sm_standing.specs.Entries.{are_past, folding, head, is_among, is_fork
 use Rattle.sm_standing.specs.Forks.{IsForkChild, IsForkMoment, IsForkPlace, IsForking, forked}
 use Rattle.sm_standing.specs.Images.{Image, image_of}
 use Rattle.sm_standing.specs.Keeping.{IsHeldAlike, IsHolding, IsKept}
+use Rattle.sm_standing.specs.Logs.{IsLogged}
 use Rattle.sm_standing.specs.Outlines.{link_of}
 use Rattle.sm_standing.specs.Readings.{OneReading, SameReadings}
 use Rattle.sm_standing.specs.Standing.{disks}
@@ -53,6 +54,7 @@ use Rattle.sm_ready.specs.Stores.{Leaving, MayShow, content_in, content_now}
 use Rattle.sm_ready.proofs.CommitLaws.{IsSafe, volume_rested}
 use Rattle.sm_ready.proofs.KeptLaws.{holding_at, law_kept}
 use Rattle.sm_ready.proofs.LeftLaws.{IsLeft, extent_some, left_in, left_now, mgt_long, new_vhd, none_of_vhd, now_sector, place_reads, ready_places, size_there, vhd_of}
+use Rattle.sm_ready.proofs.LogLaws.{holds_ready, logged_as}
 use Rattle.sm_ready.proofs.MadeLaws.{none_own}
 use Rattle.sm_ready.proofs.MiddleLaws.{nat_or_not}
 use Rattle.sm_ready.proofs.Orders.{geometry_of, named_row, whole}
@@ -157,6 +159,11 @@ module _ (s : Site) (t : VolumeTable) (m : Known) (u twin : List ℕ) (read_only
 
     same_size : (x : Name) → is_apart us x ≡ true → size_of s v x ≡ size_of s t x
     same_size x apart = ap (λ (r : Option Row). span extent (extents_of r)) (h.others x apart)
+
+    -- ---- logs
+
+    pub moment_logged : IsLogged b m.logs
+    moment_logged = logged_as (holds_ready s t old m o ready) v image (λ d. h.others (Cbt d) refl) (λ d p below. kept_sector (Cbt d) (Cbt d) (same_size (Cbt d) refl) (g.others (Cbt d) refl (λ e. let x = e in cc)) p below)
 
     -- ---- images
 

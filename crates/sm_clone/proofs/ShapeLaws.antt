@@ -229,7 +229,7 @@ module _ (s : Site) (t : VolumeTable) (m : Known) (u twin : List ℕ) (read_only
     entry = twin_record u twin read_only origin
 
     abbrev pub known_then : Known
-    known_then = record { rows = rows_then now a b; places = set m.places k (Some entry); attached = used; op = m.op }
+    known_then = record { rows = rows_then now a b; places = set m.places k (Some entry); logs = m.logs; attached = used; op = m.op }
 
     images_then : map machine_row (rows_then now a b) ≡ fork_images by_number u twin (disk_image u σ)
     images_then =

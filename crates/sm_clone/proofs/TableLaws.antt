@@ -7,14 +7,14 @@ use Rattle.std.proofs.lemmas.Option.{same_Some}
 use Rattle.common_laws.proofs.Lists.{filter-In, In-map_at}
 use Rattle.common_laws.proofs.Options.{none_of_some}
 use Rattle.common_laws.specs.Lists.{In}
-use Rattle.sm_base.specs.Kinds.{is_image, is_entry}
+use Rattle.sm_base.specs.Kinds.{is_image, is_log}
 use Rattle.sm_base.specs.Names.{IsName, IsUuid, base_front, base_uuid, is_base}
 use Rattle.sm_base.specs.Numbers.{thick}
 use Rattle.sm_base.specs.declared.names.Name.{Name}
 use Rattle.sm_base.specs.declared.names.Name.TheVariants as name
 use Rattle.sm_machine.specs.Operations.{Op}
 use Rattle.sm_machine.specs.Operations as op
-use Rattle.vg_meta.specs.Tables.{IsTable, IsVolume, Row, VolumeTable, names_of, rows}
+use Rattle.vg_meta.specs.Tables.{IsVolume, Row, VolumeTable, names_of, rows}
 use Rattle.vg_meta.specs.Changes.{applied, made, renamed as moved_as, tagged}
 use Rattle.vg_meta.specs.Text.{text}
 use Rattle.vg_meta.specs.declared.changes.Change.TheVariants.{Create, Mark, Rename}
@@ -38,13 +38,14 @@ use Rattle.sm_ready.specs.Ready.{IsTidy}
 use Rattle.sm_ready.specs.Runs.{AllMay}
 use Rattle.sm_ready.proofs.CauseLaws.{named_as, vhd_uuid}
 use Rattle.sm_ready.proofs.FitLaws.{fits_entries}
+use Rattle.sm_ready.proofs.LogRows.{entry_apart, few_log_rows, image_apart}
 use Rattle.sm_ready.proofs.NewLaws.{unvolumed}
 use Rattle.sm_ready.proofs.NumberLaws.{is_base_of}
 use Rattle.sm_ready.proofs.Orders.{In-tree_row, IsRowed, named_row, none_making, rowed}
 use Rattle.sm_ready.proofs.OwnLaws.{IsOwn}
 use Rattle.sm_ready.proofs.RowLaws.{HasVolume, image_named, volume_there}
 use Rattle.sm_ready.proofs.SumLaws.{images_counted}
-use Rattle.gc_abandon.proofs.EntryLaws.{counted}
+use Rattle.gc_abandon.proofs.EntryLaws.{as_many, counted}
 use Rattle.sm_clone.specs.Forking.{AreForFork, Passes, base_name, entry_name, first_changes, fork_of, last_changes, table_begun, table_forked}
 use Rattle.sm_clone.specs.declared.forks.Fork.{Fork}
 use Rattle.sm_clone.proofs.ForkRows.{vhd_named}
@@ -329,28 +330,37 @@ module _ (s : Site) (t : VolumeTable) (m : Known) (u twin : List ℕ) (read_only
       let more = (new s t m u twin read_only o tidy passes).few in
       omega (arith, counted is_image v.volumes, counted is_image t.volumes, few, images_counted s t m tidy.none_new o, more, makes_two u twin read_only)
 
-  fits_in : (v : VolumeTable) → IsTable s.count v → length (names_in v is_image) ≤ length (names_in t is_image) + 2 → length (names_in v is_entry) ≤ length (names_in t is_entry) + 1 → length (text v) ≤ text_limit s.count
-  fits_in v table few entries =
-      fits_entries s.count v table o.few_extents (few_images v few) (omega (arith, entries, ap (λ (ns : List Name). length ns) o.entries, few_entries m.op))
+  -- the volumes of logs are as before
+  logs_stay : {v : VolumeTable} {k more : ℕ} {own_at base_at leaf_at twin_at entry_at : Option Row} {ns : List Name} {taken : List ℕ} → Stage v k more own_at base_at leaf_at twin_at entry_at ns taken
+      → (n : Name) → is_log n ≡ true → rows v n ≡ rows t n
+  logs_stay z (name.Cbt d) log =
+      z.others (name.Cbt d) (image_apart f.own to_fork.own_image d) (image_apart (base_name f) to_fork.base_image d) (image_apart (name.Vhd u) refl d) (image_apart (name.Vhd twin) refl d) (entry_apart (entry_name f) refl d)
+  logs_stay z _ log = absurd (let e = log in cc)
+
+  fits_in : {v : VolumeTable} {k more : ℕ} {own_at base_at leaf_at twin_at entry_at : Option Row} {ns : List Name} {taken : List ℕ} → Stage v k more own_at base_at leaf_at twin_at entry_at ns taken
+      → more ≤ 2 → length (text v) ≤ text_limit s.count
+  fits_in {v = v} z few =
+      fits_entries s.count v z.table o.few_extents (few_images v (omega (arith, z.images, few))) (omega (arith, as_many is_log s.count v t z.table o.table (logs_stay z), few_log_rows s t m o))
+      (omega (arith, z.entries, ap (λ (ns : List Name). length ns) o.entries, few_entries m.op))
 
   -- ---- the commits
 
   pub can_begin : AllMay s.count t (first_changes f own twins)
   can_begin = (
     staged.may_1 s.count t f.own (base_name f) (name.Vhd u) (name.Vhd twin) (entry_name f) own twins to_fork,
-    fits_in table_1 stage_1.table (omega (arith, stage_1.images)) stage_1.entries,
+    fits_in stage_1 (omega arith),
     (
       staged.may_2 s.count t f.own (base_name f) (name.Vhd u) (name.Vhd twin) (entry_name f) own twins to_fork,
-      fits_in table_2 stage_2.table (omega (arith, stage_2.images)) stage_2.entries,
+      fits_in stage_2 (omega arith),
       (
         staged.may_3 s.count t f.own (base_name f) (name.Vhd u) (name.Vhd twin) (entry_name f) own twins to_fork,
-        fits_in table_3 stage_3.table (omega (arith, stage_3.images)) stage_3.entries,
+        fits_in stage_3 (omega arith),
         (
           staged.may_4 s.count t f.own (base_name f) (name.Vhd u) (name.Vhd twin) (entry_name f) own twins to_fork,
-          fits_in table_4 stage_4.table (omega (arith, stage_4.images)) stage_4.entries,
+          fits_in stage_4 (omega arith),
           (
             staged.may_5 s.count t f.own (base_name f) (name.Vhd u) (name.Vhd twin) (entry_name f) own twins to_fork,
-            fits_in table_5 stage_5.table stage_5.images stage_5.entries,
+            fits_in stage_5 (omega arith),
             tt,
           ),
         ),
@@ -361,13 +371,13 @@ module _ (s : Site) (t : VolumeTable) (m : Known) (u twin : List ℕ) (read_only
   pub can_end : AllMay s.count table_5 (last_changes f)
   can_end = (
     staged.may_6 s.count t f.own (base_name f) (name.Vhd u) (name.Vhd twin) (entry_name f) own twins to_fork,
-    fits_in table_6 stage_6.table stage_6.images stage_6.entries,
+    fits_in stage_6 (omega arith),
     (
       staged.may_7 s.count t f.own (base_name f) (name.Vhd u) (name.Vhd twin) (entry_name f) own twins to_fork,
-      fits_in table_7 stage_7.table stage_7.images stage_7.entries,
+      fits_in stage_7 (omega arith),
       (
         staged.may_8 s.count t f.own (base_name f) (name.Vhd u) (name.Vhd twin) (entry_name f) own twins to_fork,
-        fits_in table_8 stage_8.table stage_8.images stage_8.entries,
+        fits_in stage_8 (omega arith),
         tt,
       ),
     ),

@@ -1,4 +1,4 @@
-use Rattle.std.proofs.Common.{◌≡◌, ◌≢◌, List, sym, subst, subst₂, arith}
+use Rattle.std.proofs.Common.{◌≡◌, ◌≢◌, List, refl, sym, subst, subst₂, arith}
 use Rattle.std.specs.Prelude.{AllPairs, slice_index_or, take}
 use Rattle.sm_base.specs.declared.names.Name.{Name}
 use Rattle.vg_meta.specs.Roomy.{table_alone}
@@ -84,7 +84,7 @@ returns-in_err-sync-clause-done g c = λ told ready.
     synced_failed
     (is_told g.S.Store c.args.store.now c.args.memory.now c.requires.session.orderly c.requires.session.usable told ready (g.met.S.Store.leaves_now c.args.store.now told c.requires.session.usable))
     (record { site = c.sync.ensures.site; table = c.sync.ensures.table.0; failed = c.sync.ensures.table.1; keeps = c.sync.ensures.keeps told; leaves = c.sync.ensures.leaves told })
-    (known c.args.memory.now) _ _ (λ fine. err_not_ok _ tt c.from_residual.ensures.0 fine)
+    (known c.args.memory.now) _ _ (λ fine. err_not_ok _ tt c.from_residual.ensures.0 fine) refl
 
 pub returns-clause-done : goal.returns-clause-done
 returns-clause-done g c = λ told ready.
@@ -92,4 +92,4 @@ returns-clause-done g c = λ told ready.
     (is_told g.S.Store c.args.store.now c.args.memory.now c.requires.session.orderly c.requires.session.usable told ready (g.met.S.Store.leaves_now c.args.store.now told c.requires.session.usable))
     (record { site = c.sync.ensures.site; table = c.sync.ensures.table.0; failed = c.sync.ensures.table.1; keeps = c.sync.ensures.keeps told; leaves = c.sync.ensures.leaves told })
     (with_attached c.enter.new.self (known c.args.memory.now)) _ _ (attach_disks _ _ c.args.disk.now c.args.mode) (c.in_ok-sync.ensures.settled told)
-    (ready_used _ _ _ (known c.args.memory.now) c.enter.new.self (ready_synced _ _ _ _ (known c.args.memory.now) ready (c.sync.ensures.keeps told) (c.in_ok-sync.ensures.settled told)) (c.in_ok-sync.ensures.settled told))
+    (ready_used _ _ _ (known c.args.memory.now) c.enter.new.self (ready_synced _ _ _ _ (known c.args.memory.now) ready (c.sync.ensures.keeps told) (c.in_ok-sync.ensures.settled told)) (c.in_ok-sync.ensures.settled told)) refl

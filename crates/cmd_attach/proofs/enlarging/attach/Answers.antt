@@ -77,12 +77,12 @@ attach_given-requires-2-clause-growth g c =
     }
 
 pub returns-in_default-clause-done : goal.returns-in_default-clause-done
-returns-in_default-clause-done g c = λ told ready. only_crash (λ fine. let x = fine in cc) (c.attach_given.ensures.done told ready).crash
+returns-in_default-clause-done g c = λ told ready. let d = c.attach_given.ensures.done told ready in only_crash (λ fine. let x = fine in cc) d.crash d.logged
 
 pub returns-then-lacking-eq0-clause-done : goal.returns-then-lacking-eq0-clause-done
 returns-then-lacking-eq0-clause-done g c = λ told ready.
     let d = c.attach_given.ensures.done told ready in
-    record { ready = λ fine. d.ready c.in-Ok.is; settled = λ fine. d.settled c.in-Ok.is; shown = λ fine. d.shown c.in-Ok.is; crash = d.crash }
+    record { ready = λ fine. d.ready c.in-Ok.is; settled = λ fine. d.settled c.in-Ok.is; shown = λ fine. d.shown c.in-Ok.is; crash = d.crash; logged = d.logged }
 
 pub returns-in_default-plan_growth-clause-step : goal.returns-in_default-plan_growth-clause-step
 returns-in_default-plan_growth-clause-step g c =
@@ -93,7 +93,7 @@ pub returns-in_default-plan_growth-clause-done : goal.returns-in_default-plan_gr
 unfolding disks_next
 returns-in_default-plan_growth-clause-done g c = λ told ready.
     let e = c.plan_growth.ensures in
-    only_read c.args.memory.now c.requires.session.orderly c.requires.session.usable told ready (g.met.S.Store.leaves_now c.args.store.now told c.requires.session.usable) e.reads e.same.1 e.leaves _ _ (λ fine. absurd (let x = fine in cc))
+    only_read c.args.memory.now c.requires.session.orderly c.requires.session.usable told ready (g.met.S.Store.leaves_now c.args.store.now told c.requires.session.usable) e.reads e.same.1 e.leaves _ _ (λ fine. absurd (let x = fine in cc)) refl
 
 pub attach_given-requires-2-clause-session : goal.attach_given-requires-2-clause-session
 attach_given-requires-2-clause-session g c = reads_between c.args.memory.now c.plan_growth.ensures.reads c.requires.session

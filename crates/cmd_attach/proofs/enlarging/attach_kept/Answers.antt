@@ -75,11 +75,11 @@ returns-clause-done g c = λ told ready.
     let same = ap (λ s. disks (content_now s (table_alone (g.S.Store.table c.enlarge.new.store)) (g.S.Store.area c.enlarge.new.store))) c.enlarge.ensures.step.site ∙ d.shown c.in_ok-enlarge.was in
     let w = then_done h mid c.enlarge.ensures.step.site (d.settled c.in_ok-enlarge.was) same (known c.note-2.new.memory) (c.note-2.result ≡ Ok tt) (disks (store_content g.S.Store c.args.store.now))
     (subst (λ ds. HasDone (g.S.Store.site c.enlarge.new.store) (table_alone (g.S.Store.table c.enlarge.new.store)) (table_alone (g.S.Store.table c.note-2.new.store)) (g.S.Store.area c.enlarge.new.store) (g.S.Store.area c.note-2.new.store) (known c.note-2.new.memory) (StoreLeaves g.S.Store c.enlarge.new.store) (StoreLeaves g.S.Store c.note-2.new.store) (c.note-2.result ≡ Ok tt) ds) same (c.note-2.ensures.done told made)) in
-    record { ready = λ fine. w.ready c.in_ok-note-2.was; settled = λ fine. w.settled c.in_ok-note-2.was; shown = λ fine. w.shown c.in_ok-note-2.was; crash = w.crash }
+    record { ready = λ fine. w.ready c.in_ok-note-2.was; settled = λ fine. w.settled c.in_ok-note-2.was; shown = λ fine. w.shown c.in_ok-note-2.was; crash = w.crash; logged = w.logged }
 
 pub returns-in_err-enlarge-clause-done : goal.returns-in_err-enlarge-clause-done
 unfolding disks_next
-returns-in_err-enlarge-clause-done g c = λ told ready. only_crash (λ fine. err_not_ok _ tt c.from_residual-in_err-enlarge.ensures.0 fine) (c.enlarge.ensures.done told ready).crash
+returns-in_err-enlarge-clause-done g c = λ told ready. let d = c.enlarge.ensures.done told ready in only_crash (λ fine. err_not_ok _ tt c.from_residual-in_err-enlarge.ensures.0 fine) d.crash d.logged
 
 pub returns-in_err-note-2-clause-step : goal.returns-in_err-note-2-clause-step
 returns-in_err-note-2-clause-step g c =
@@ -95,4 +95,4 @@ returns-in_err-note-2-clause-done g c = λ told ready.
     let same = ap (λ s. disks (content_now s (table_alone (g.S.Store.table c.enlarge.new.store)) (g.S.Store.area c.enlarge.new.store))) c.enlarge.ensures.step.site ∙ d.shown c.in_ok-enlarge.was in
     let w = then_done h mid c.enlarge.ensures.step.site (d.settled c.in_ok-enlarge.was) same (known c.note-2.new.memory) (c.note-2.result ≡ Ok tt) (disks (store_content g.S.Store c.args.store.now))
     (subst (λ ds. HasDone (g.S.Store.site c.enlarge.new.store) (table_alone (g.S.Store.table c.enlarge.new.store)) (table_alone (g.S.Store.table c.note-2.new.store)) (g.S.Store.area c.enlarge.new.store) (g.S.Store.area c.note-2.new.store) (known c.note-2.new.memory) (StoreLeaves g.S.Store c.enlarge.new.store) (StoreLeaves g.S.Store c.note-2.new.store) (c.note-2.result ≡ Ok tt) ds) same (c.note-2.ensures.done told made)) in
-    only_crash (λ fine. err_not_ok _ tt c.from_residual-in_err-note-2.ensures.0 fine) w.crash
+    only_crash (λ fine. err_not_ok _ tt c.from_residual-in_err-note-2.ensures.0 fine) w.crash w.logged

@@ -28,7 +28,7 @@ returns-in_err-sync-clause-done g c = λ told ready.
     synced_failed
     (is_told g.S.Store c.args.store.now c.args.memory.now c.requires.session.orderly c.requires.session.usable told ready (g.met.S.Store.leaves_now c.args.store.now told c.requires.session.usable))
     (record { site = c.sync.ensures.site; table = c.sync.ensures.table.0; failed = c.sync.ensures.table.1; keeps = c.sync.ensures.keeps told; leaves = c.sync.ensures.leaves told })
-    (known c.args.memory.now) _ _ (λ fine. err_not_ok _ tt c.from_residual.ensures.0 fine)
+    (known c.args.memory.now) _ _ (λ fine. err_not_ok _ tt c.from_residual.ensures.0 fine) refl
 
 pub put-requires-clause-size : goal.put-requires-clause-size
 put-requires-clause-size g c =
@@ -61,7 +61,7 @@ returns-in_err-put-clause-done g c = λ told ready.
     (recorded _ _ (known c.args.memory.now) c.args.disk.now c.args.text.now c.in-Some.record.now c.requires.session.orderly c.requires.allowed (sym c.find.ensures.found ∙ ap option_copied c.in-Some.is))
     c.relabelled-entry.ensures.is c.relabelled-entry.ensures.proper c.requires.allowed c.put.ensures.writes
     (g.met.S.Store.leaves_now c.put.new.store told (c.put.ensures.writes.stays.failed ∙ c.sync.ensures.table.1 ∙ c.requires.session.usable))
-    _ _ (λ fine. err_not_ok _ tt c.from_residual-in_err-put.ensures.0 fine)
+    _ _ (λ fine. err_not_ok _ tt c.from_residual-in_err-put.ensures.0 fine) refl
 
 pub returns-in_err-sync-2-clause-done : goal.returns-in_err-sync-2-clause-done
 returns-in_err-sync-2-clause-done g c = λ told ready.
@@ -73,7 +73,7 @@ returns-in_err-sync-2-clause-done g c = λ told ready.
     c.relabelled-entry.ensures.is c.relabelled-entry.ensures.proper c.requires.allowed c.put.ensures.writes
     (g.met.S.Store.leaves_now c.put.new.store told (c.put.ensures.writes.stays.failed ∙ c.sync.ensures.table.1 ∙ c.requires.session.usable))
     (record { site = c.sync-2.ensures.site; table = c.sync-2.ensures.table.0; failed = c.sync-2.ensures.table.1; keeps = c.sync-2.ensures.keeps told; leaves = c.sync-2.ensures.leaves told })
-    _ _ (λ fine. err_not_ok _ tt c.from_residual-in_err-sync-2.ensures.0 fine)
+    _ _ (λ fine. err_not_ok _ tt c.from_residual-in_err-sync-2.ensures.0 fine) refl
 
 pub returns-clause-done : goal.returns-clause-done
 returns-clause-done g c = λ told ready.

@@ -41,7 +41,7 @@ begin-requires g c = let r = c.requires in can_begin (makes g.S.Store c.args.sto
 pub returns-in_err-begin-clause-done : goal.returns-in_err-begin-clause-done
 returns-in_err-begin-clause-done g c = λ told ready.
     let r = c.requires in
-    begin_failed (makes g.S.Store c.args.store.now c.args.memory.now c.args.entry c.args.extents.items r.session.orderly r.session.tidy r.disk r.proper r.plain r.place r.session.usable) told ready _ _ _ (λ fine. err_not_ok _ tt c.from_residual.ensures.0 fine) c.in_err-begin.ensures.fails (c.begin.ensures.crash told)
+    begin_failed (makes g.S.Store c.args.store.now c.args.memory.now c.args.entry c.args.extents.items r.session.orderly r.session.tidy r.disk r.proper r.plain r.place r.session.usable) told ready _ _ _ (λ fine. err_not_ok _ tt c.from_residual.ensures.0 fine) refl c.in_err-begin.ensures.fails (c.begin.ensures.crash told)
 
 pub fill_disk-requires-clause-orderly : goal.fill_disk-requires-clause-orderly
 fill_disk-requires-clause-orderly g c = let r = c.requires in next_orderly (makes g.S.Store c.args.store.now c.args.memory.now c.args.entry c.args.extents.items r.session.orderly r.session.tidy r.disk r.proper r.plain r.place r.session.usable) c.in_ok-begin.ensures.commits
@@ -62,7 +62,7 @@ returns-in_err-fill_disk-clause-done g c = λ told ready.
     let m = c.in_ok-begin.ensures.commits in
     let stays = c.fill_disk.ensures.stays in
     fill_failed (makes g.S.Store c.args.store.now c.args.memory.now c.args.entry c.args.extents.items r.session.orderly r.session.tidy r.disk r.proper r.plain r.place r.session.usable) told ready m (c.begin.ensures.crash told) stays (c.fill_disk.ensures.middle told) _ _ _
-    (λ fine. err_not_ok _ tt c.from_residual-in_err-fill_disk.ensures.0 fine) (g.met.S.Store.leaves_now c.fill_disk.new.store told (stays.failed ∙ m.usable))
+    (λ fine. err_not_ok _ tt c.from_residual-in_err-fill_disk.ensures.0 fine) refl (g.met.S.Store.leaves_now c.fill_disk.new.store told (stays.failed ∙ m.usable))
 
 pub end-requires : goal.end-requires
 end-requires g c = let r = c.requires in can_end (makes g.S.Store c.args.store.now c.args.memory.now c.args.entry c.args.extents.items r.session.orderly r.session.tidy r.disk r.proper r.plain r.place r.session.usable) c.in_ok-begin.ensures.commits c.fill_disk.ensures.stays
@@ -73,7 +73,7 @@ returns-in_err-end-clause-done g c = λ told ready.
     let b = makes g.S.Store c.args.store.now c.args.memory.now c.args.entry c.args.extents.items r.session.orderly r.session.tidy r.disk r.proper r.plain r.place r.session.usable in
     let filled = c.in_ok-fill_disk.ensures.filled told in
     end_failed b told ready c.in_ok-begin.ensures.commits (c.begin.ensures.crash told) c.fill_disk.ensures.stays (c.fill_disk.ensures.middle told) _ (Keeps-none _) filled.records refl _ (disk_is b r.plain c.in_ok-begin.ensures.commits filled)
-    _ _ (λ fine. err_not_ok _ tt c.from_residual-in_err-end.ensures.0 fine) c.in_err-end.ensures.fails (c.end.ensures.crash told)
+    _ _ (λ fine. err_not_ok _ tt c.from_residual-in_err-end.ensures.0 fine) refl c.in_err-end.ensures.fails (c.end.ensures.crash told)
 
 pub add_image-requires-clause-room : goal.add_image-requires-clause-room
 add_image-requires-clause-room g c =

@@ -34,7 +34,7 @@ begin-requires g c = can_begin (makes_vhd c.requires.session c.requires.can c.ar
 
 pub returns-in_err-begin-clause-done : goal.returns-in_err-begin-clause-done
 returns-in_err-begin-clause-done g c = λ told ready.
-    begin_failed (makes_vhd c.requires.session c.requires.can c.args.now) told ready _ _ _ (λ fine. err_not_ok _ tt c.from_residual.ensures.0 fine) c.in_err-begin.ensures.fails (c.begin.ensures.crash told)
+    begin_failed (makes_vhd c.requires.session c.requires.can c.args.now) told ready _ _ _ (λ fine. err_not_ok _ tt c.from_residual.ensures.0 fine) refl c.in_err-begin.ensures.fails (c.begin.ensures.crash told)
 
 pub write_disk-requires-clause-orderly : goal.write_disk-requires-clause-orderly
 write_disk-requires-clause-orderly g c = next_orderly (makes_vhd c.requires.session c.requires.can c.args.now) c.in_ok-begin.ensures.commits
@@ -52,7 +52,7 @@ returns-in_err-image-clause-done g c = λ told ready.
     let begun = c.in_ok-begin.ensures.commits in
     let stays = c.write_disk.ensures.stays in
     fill_failed (makes_vhd c.requires.session c.requires.can c.args.now) told ready begun (c.begin.ensures.crash told) stays (c.write_disk.ensures.middle told) _ _ _
-    (λ fine. err_not_ok _ tt c.from_residual-in_err-image.ensures.0 fine) (g.met.S.Store.leaves_now c.write_disk.new.store told (stays.failed ∙ begun.usable))
+    (λ fine. err_not_ok _ tt c.from_residual-in_err-image.ensures.0 fine) refl (g.met.S.Store.leaves_now c.write_disk.new.store told (stays.failed ∙ begun.usable))
 
 -- ---- once the image is written
 
@@ -66,7 +66,7 @@ returns-in_err-end-clause-done g c = λ told ready.
     let wrote = c.in_ok-image.ensures.written told in
     end_failed (makes_vhd c.requires.session can c.args.now) told ready begun (c.begin.ensures.crash told) c.write_disk.ensures.stays (c.write_disk.ensures.middle told) wrote.between wrote.kept wrote.records
     (steady_vhd c.requires.session can c.args.now begun c.write_disk.new.store wrote) _ (vhd_disk_is c.requires.session can c.args.now begun c.write_disk.new.store wrote)
-    _ _ (λ fine. err_not_ok _ tt c.from_residual-in_err-end.ensures.0 fine) c.in_err-end.ensures.fails (c.end.ensures.crash told)
+    _ _ (λ fine. err_not_ok _ tt c.from_residual-in_err-end.ensures.0 fine) refl c.in_err-end.ensures.fails (c.end.ensures.crash told)
 
 pub add-requires-clause-name : goal.add-requires-clause-name
 unfolding IsName

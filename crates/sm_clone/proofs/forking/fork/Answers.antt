@@ -56,7 +56,7 @@ returns-in_default-prepare-clause-step g c =
 pub returns-in_default-prepare-clause-done : goal.returns-in_default-prepare-clause-done
 returns-in_default-prepare-clause-done g c = λ told ready.
     let e = c.prepare.ensures in
-    poor_done c.args.memory.now c.requires.session.orderly c.requires.session.usable told ready (g.met.S.Store.leaves_now c.args.store.now told c.requires.session.usable) e.reads e.same.1 e.leaves _ _ _ (λ fine. absurd (let x = fine in cc))
+    poor_done c.args.memory.now c.requires.session.orderly c.requires.session.usable told ready (g.met.S.Store.leaves_now c.args.store.now told c.requires.session.usable) e.reads e.same.1 e.leaves _ _ _ (λ fine. absurd (let x = fine in cc)) refl
 
 pub give_up-requires : goal.give_up-requires
 give_up-requires g c = record { session = reads_between c.args.memory.now c.prepare.ensures.reads c.requires.session }

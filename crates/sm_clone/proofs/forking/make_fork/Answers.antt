@@ -35,7 +35,7 @@ returns-in_err-begin-clause-step g c = run_steps (run_begun c.args.now c.make_ba
 
 pub returns-in_err-begin-clause-done : goal.returns-in_err-begin-clause-done
 returns-in_err-begin-clause-done g c = λ told ready.
-    fork_failed c.requires.can told ready c.args.now c.make_base.new.row.image c.in-Some.base (sym c.take.ensures.taken ∙ c.in-Some.is) (ap (λ (r : TreeRow). r.image) c.make_base.ensures) _ _
+    fork_failed c.requires.can told ready c.args.now c.make_base.new.row.image c.in-Some.base (sym c.take.ensures.taken ∙ c.in-Some.is) (ap (λ (r : TreeRow). r.image) c.make_base.ensures) _ refl _
     (λ fine. err_not_ok _ tt c.from_residual.ensures.0 fine) (run_begun c.args.now c.make_base.new.row.image (unwrap_or (place_for c.args.memory.now.records c.args.entry.uuid) 0) c.args.entry c.in_err-begin.ensures.cut)
 
 pub fill-requires-clause-own_room : goal.fill-requires-clause-own_room
@@ -64,7 +64,7 @@ returns-in_err-own-clause-step g c =
 
 pub returns-in_err-own-clause-done : goal.returns-in_err-own-clause-done
 returns-in_err-own-clause-done g c = λ told ready.
-    fork_failed c.requires.can told ready c.args.now c.make_base.new.row.image c.in-Some.base (sym c.take.ensures.taken ∙ c.in-Some.is) (ap (λ (r : TreeRow). r.image) c.make_base.ensures) _ _
+    fork_failed c.requires.can told ready c.args.now c.make_base.new.row.image c.in-Some.base (sym c.take.ensures.taken ∙ c.in-Some.is) (ap (λ (r : TreeRow). r.image) c.make_base.ensures) _ refl _
     (λ fine. err_not_ok _ tt c.from_residual-in_err-own.ensures.0 fine)
     (run_filled c.args.now c.make_base.new.row.image (unwrap_or (place_for c.args.memory.now.records c.args.entry.uuid) 0) c.args.entry c.in_ok-begin.ensures.run c.fill.ensures.stays c.fill.ensures.middle (g.met.S.Store.leaves_now c.fill.new.store))
 
@@ -78,7 +78,7 @@ returns-in_err-end-clause-step g c =
 
 pub returns-in_err-end-clause-done : goal.returns-in_err-end-clause-done
 returns-in_err-end-clause-done g c = λ told ready.
-    fork_failed c.requires.can told ready c.args.now c.make_base.new.row.image c.in-Some.base (sym c.take.ensures.taken ∙ c.in-Some.is) (ap (λ (r : TreeRow). r.image) c.make_base.ensures) _ _
+    fork_failed c.requires.can told ready c.args.now c.make_base.new.row.image c.in-Some.base (sym c.take.ensures.taken ∙ c.in-Some.is) (ap (λ (r : TreeRow). r.image) c.make_base.ensures) _ refl _
     (λ fine. err_not_ok _ tt c.from_residual-in_err-end.ensures.0 fine)
     (run_ended c.args.now c.make_base.new.row.image (unwrap_or (place_for c.args.memory.now.records c.args.entry.uuid) 0) c.args.entry c.in_ok-begin.ensures.run c.fill.ensures.stays c.fill.ensures.middle (g.met.S.Store.leaves_now c.fill.new.store)
     c.in_ok-own.ensures.filled c.in_err-end.ensures.cut)
