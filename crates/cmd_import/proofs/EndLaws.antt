@@ -94,6 +94,7 @@ module _ {S : Type 0} (g : Ghosts S) (b d : S) (m : Memory) (u : List ℕ) (f : 
               settled = λ sure. done.settled fine;
               shown = λ sure. done.shown fine;
               crash = λ v image l. done.crash v image l;
+              logged = λ v image l. done.logged v image l;
             };
           }
 
@@ -108,6 +109,7 @@ module _ {S : Type 0} (g : Ghosts S) (b d : S) (m : Memory) (u : List ℕ) (f : 
               settled = λ sure. absurd (true≢false (sym sure));
               shown = λ sure. absurd (true≢false (sym sure));
               crash = λ v image l. done.crash v image l;
+              logged = λ v image l. done.logged v image l;
             };
           }
 

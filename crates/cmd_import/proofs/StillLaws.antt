@@ -33,7 +33,7 @@ same_ends t u bytes was fault.Source = refl
 same_ends t u bytes was fault.NoMemory = refl
 
 module _ {S : Type 0} (g : Ghosts S) (u : List ℕ) (bytes : Option (List ℕ)) (m n : Memory) (a new : S) (f : ImportFault) where
-  pub ends_still : g.told → LeavesStill g a new → HasImported g u bytes m n a new (Err f)
+  pub ends_still : g.told → LeavesStill g m a new → HasImported g u bytes m n a new (Err f)
   ends_still told left = record {
     ends = disks (store_content g a);
     ends_with = same_ends (target_from g a m) u bytes (disks (store_content g a)) f;
@@ -41,7 +41,8 @@ module _ {S : Type 0} (g : Ghosts S) (u : List ℕ) (bytes : Option (List ℕ)) 
       ready = λ ok. absurd (true≢false (sym ok));
       settled = λ ok. absurd (true≢false (sym ok));
       shown = λ ok. absurd (true≢false (sym ok));
-      crash = λ v image l. left told v image l;
+      crash = λ v image l. let w = left told v image l in (w.0, w.1);
+      logged = λ v image l. let w = left told v image l in w.2;
     };
   }
 
@@ -56,11 +57,12 @@ module _ {S : Type 0} (g : Ghosts S) (u : List ℕ) (bytes : Option (List ℕ)) 
       settled = λ ok. absurd (true≢false (sym ok));
       shown = λ ok. absurd (true≢false (sym ok));
       crash = λ v image l. done.crash v image l;
+      logged = λ v image l. done.logged v image l;
     };
   }
 
 -- a store to which nothing was done
-pub untouched : {S : Type 0} (g : Ghosts S) (a : S) (m : Memory) → LeavesNow g → IsBetweenSteps g a m → IsReadyStore g a m → LeavesStill g a a
+pub untouched : {S : Type 0} (g : Ghosts S) (a : S) (m : Memory) → LeavesNow g → IsBetweenSteps g a m → IsReadyStore g a m → LeavesStill g m a a
 untouched g a m leaves session ready = (so_far_first {g = g} {a = a} m leaves session.usable session.orderly ready).left
 
 -- ---- since the begin
@@ -95,11 +97,11 @@ since_at g o s s' m m' u v b w store memory named begun going since told ready =
 
 module _ {S : Type 0} (g : Ghosts S) (o : Begin S) (s : S) (m : Memory) (u : List ℕ) (leaves : LeavesNow g) where
   -- the import was over, or nothing was done
-  pub still_unbegun : (b v : Bool) → IsSince g o s m u b v → b ≡ false → IsBetweenSteps g s m → g.told → IsReadyStore g o.store o.memory → LeavesStill g o.store s
+  pub still_unbegun : (b v : Bool) → IsSince g o s m u b v → b ≡ false → IsBetweenSteps g s m → g.told → IsReadyStore g o.store o.memory → LeavesStill g o.memory o.store s
   still_unbegun b true h new session told ready = h.stops told ready refl
   still_unbegun b false h new session told ready =
       let at = h.unbegun refl new in
-      subst (LeavesStill g o.store) (sym at) (untouched g o.store o.memory leaves (subst₂ (IsBetweenSteps g) at h.memory session) ready)
+      subst (LeavesStill g o.memory o.store) (sym at) (untouched g o.store o.memory leaves (subst₂ (IsBetweenSteps g) at h.memory session) ready)
 
 -- the session is as before, and so is memory
 pub with_memory : (P Q : Type 0) (r : Result ℕ ImportFault) → IfErr r (λ f. (f ≡ fault.Device → ⊥) → P) → Q → IfErr r (λ f. (f ≡ fault.Device → ⊥) → P × Q)

@@ -25,6 +25,8 @@ use Rattle.sm_mgt.specs.Places.{place_for}
 use Rattle.sm_record.specs.Records.{IsRecord}
 use Rattle.sm_record.specs.declared.records.Record.{Record}
 use Rattle.sm_standing.specs.Standing.{disks}
+use Rattle.sm_standing.specs.Logs.{IsLogged}
+use Rattle.sm_log.specs.Logs.{Log}
 use Rattle.vhd_chain.specs.declared.rows.TreeRow.{TreeRow}
 use Rattle.vhd_chain.specs.Trees.{is_before, row_name, with_row}
 use Rattle.vhd_chain.specs.Reading.{AllAreTrue}
@@ -39,7 +41,7 @@ use Rattle.sm_ready.specs.Known.{Known, known, machine_row, shape_in}
 use Rattle.sm_ready.specs.Orderly.{IsOrderly}
 use Rattle.sm_ready.specs.Ready.{IsReady, IsTidy}
 use Rattle.sm_ready.specs.Sessions.{HasTreeRoom}
-use Rattle.sm_ready.specs.Stores.{Leaving, MayShow, StoreLeaves, content_now, store_content}
+use Rattle.sm_ready.specs.Stores.{Leaving, MayShow, StoreLeaves, content_in, content_now, store_content}
 use Rattle.sm_ready.specs.declared.memory.Memory.{Memory}
 use Rattle.sm_ready.proofs.ChainLaws.{might_show, only_crash, still_before, tab}
 use Rattle.sm_ready.proofs.FitLaws.{fits_orderly}
@@ -81,14 +83,14 @@ good_row s t m u extents (body.Vhd head slots) vhd named stands = record {
 
 module _ {S : Type 0} {g : Ghosts S} where
   -- what is between the disks from before and those is between them and others
-  so_far_wider : {a b : S} {Now : Stored → Type 0} (before : Leaving) (was ds : List Disk) → MayShow (g.site a) before was → IsSoFar g (ShowsBetween (g.site a) before was was) Now a b
-      → IsSoFar g (ShowsBetween (g.site a) before was ds) Now a b
-  so_far_wider before was ds might so = record {
+  so_far_wider : {a b : S} {Now : Stored → Type 0} (ls : List Log) (before : Leaving) (was ds : List Disk) → MayShow (g.site a) before was → IsSoFar g (ShowsBetween (g.site a) before was was ls) Now a b
+      → IsSoFar g (ShowsBetween (g.site a) before was ds ls) Now a b
+  so_far_wider ls before was ds might so = record {
     site = so.site;
     faults = so.faults;
     usable = so.usable;
     beside = so.beside;
-    left = λ told t image l. let w = so.left told t image l in (w.0, still_before ds _ might w.1);
+    left = λ told t image l. let w = so.left told t image l in (w.0, still_before ds _ might w.1, w.2);
     now = so.now;
   }
 
@@ -150,16 +152,16 @@ module _ {S : Type 0} {g : Ghosts S} where
       abbrev ds : List Disk
       ds = with_disk made was
 
-      before_end : IsSoFar g (ShowsBetween (g.site a) (StoreLeaves g a) was ds) (λ y. y ≡ stored g b) a b
-      before_end = so_far_wider (StoreLeaves g a) was ds (might_show g since.usable told) (so_far_now since.so_far)
+      before_end : IsSoFar g (ShowsBetween (g.site a) (StoreLeaves g a) was ds (known m).logs) (λ y. y ≡ stored g b) a b
+      before_end = so_far_wider (known m).logs (StoreLeaves g a) was ds (might_show g since.usable told) (so_far_now since.so_far)
 
-      goes : g.told → (y : Stored) → y ≡ stored g b → GoesOn (ShowsBetween (g.site a) (StoreLeaves g a) was ds) (IsReadyWith last_known ds) y (end_calls (g.site b) (tab g b) k r)
+      goes : g.told → (y : Stored) → y ≡ stored g b → GoesOn (ShowsBetween (g.site a) (StoreLeaves g a) was ds (known m).logs) (IsReadyWith last_known ds) y (end_calls (g.site b) (tab g b) k r)
       goes told y is =
           let s = g.site b in
           let f = since.so_far.now told in
           let might = subst (λ z. MayShow z (StoreLeaves g a) was) (sym since.so_far.site) (might_show g since.usable told) in
-          subst (λ z. GoesOn (ShowsBetween (g.site a) (StoreLeaves g a) was ds) (IsReadyWith last_known ds) z (end_calls s (tab g b) k r)) (sym is)
-          (subst (λ z. GoesOn (ShowsBetween z (StoreLeaves g a) was ds) (IsReadyWith last_known ds) (stored g b) (end_calls s (tab g b) k r)) since.so_far.site (
+          subst (λ z. GoesOn (ShowsBetween (g.site a) (StoreLeaves g a) was ds (known m).logs) (IsReadyWith last_known ds) z (end_calls s (tab g b) k r)) (sym is)
+          (subst (λ z. GoesOn (ShowsBetween z (StoreLeaves g a) was ds (known m).logs) (IsReadyWith last_known ds) (stored g b) (end_calls s (tab g b) k r)) since.so_far.site (
             λ new did. put_fine s (tab g b) (known m) own added k r h.volume.row ending (g.area b) new was f did.beside did.torn (StoreLeaves g a) ds might,
             λ new did put. (
               made_fine s (tab g b) (known m) own added k r h.volume.row ending (g.area b) new was f did.beside did.torn put (steady told) made (disk new did.beside) (StoreLeaves g a),
@@ -170,19 +172,23 @@ module _ {S : Type 0} {g : Ghosts S} where
       pub completes_made : {e : S} (n : Memory) (ok : Type 0) → known n ≡ last_known → DoesRun g (end_calls (g.site b) (tab g b) k r) b e (Unit {0})
           → HasDoneFrom (g.site a) (tab g e) (g.area e) (known n) (StoreLeaves g a) (StoreLeaves g e) ok was ds
       completes_made {e} n ok is run =
-          let so = so_far_then (ShowsBetween (g.site a) (StoreLeaves g a) was ds) (λ y. y ≡ stored g b) (IsReadyWith last_known ds) before_end (end_calls (g.site b) (tab g b) k r) tt run goes in
+          let so = so_far_then (ShowsBetween (g.site a) (StoreLeaves g a) was ds (known m).logs) (λ y. y ≡ stored g b) (IsReadyWith last_known ds) before_end (end_calls (g.site b) (tab g b) k r) tt run goes in
           let now = so.now told in
           record {
             ready = λ fine. subst₂ (λ s x. IsReady s (tab g e) (g.area e) x) so.site (sym is) now.ready;
             settled = λ fine. now.settled;
             shown = λ fine. subst (λ s. disks (content_now s (tab g e) (g.area e)) ≡ ds) so.site now.shown;
-            crash = so.left told;
+            crash = λ v image l. let w = so.left told v image l in (w.0, w.1);
+            logged = λ v image l. subst (λ (x : Known). IsLogged (content_in (g.site a) v image) x.logs) (sym is) (let w = so.left told v image l in w.2);
           }
 
-      pub completes_cut : {e : S} {came : Type 0} (n : Known) (ok : Type 0) → (ok → ⊥) → DoesRun g (end_calls (g.site b) (tab g b) k r) b e came
+      pub completes_cut : {e : S} {came : Type 0} (n : Known) (ok : Type 0) → (ok → ⊥) → n.logs ≡ (known m).logs → DoesRun g (end_calls (g.site b) (tab g b) k r) b e came
           → HasDoneFrom (g.site a) (tab g e) (g.area e) n (StoreLeaves g a) (StoreLeaves g e) ok was ds
-      completes_cut n ok never run =
-          only_crash never (so_far_cut (ShowsBetween (g.site a) (StoreLeaves g a) was ds) (λ y. y ≡ stored g b) (IsReadyWith last_known ds) before_end (end_calls (g.site b) (tab g b) k r) run goes told)
+      completes_cut {e} n ok never same run =
+          only_crash never (λ v image l. let w = cut v image l in (w.0, w.1)) (λ v image l. subst (IsLogged (content_in (g.site a) v image)) (sym same) (let w = cut v image l in w.2))
+        where
+          cut : (v : VolumeTable) (image : ℕ → List ℕ) → StoreLeaves g e v image → ShowsBetween (g.site a) (StoreLeaves g a) was ds (known m).logs v image
+          cut = so_far_cut (ShowsBetween (g.site a) (StoreLeaves g a) was ds (known m).logs) (λ y. y ≡ stored g b) (IsReadyWith last_known ds) before_end (end_calls (g.site b) (tab g b) k r) run goes told
 
     -- ---- the session
 

@@ -14,6 +14,7 @@ use Rattle.sm_disk.specs.Held.{Held, Keeps, May, Torn, Wrote, reads}
 use Rattle.sm_disk.proofs.SectorLaws.{sector-one}
 use Rattle.sm_disk.proofs.HeldLaws.{may_settled, May-reads}
 use Rattle.vg_layout.specs.Places.{record_extents}
+use Rattle.sm_log.specs.Logs.{log_extents}
 use Rattle.vg_meta.specs.Tables.{Row, VolumeTable, extents_in, extents_of, name_eq, names_of, row_of, rows}
 use Rattle.vg_meta.specs.Changes.{Permits, applied, tagged, without}
 use Rattle.vg_meta.specs.declared.changes.Change.TheVariants.{Mark, Remove}
@@ -57,6 +58,7 @@ use Rattle.sm_ready.proofs.MiddleLaws.{middle_safe}
 use Rattle.sm_ready.proofs.NewLaws.{counted_more}
 use Rattle.sm_ready.proofs.ReachLaws.{reached}
 use Rattle.sm_ready.proofs.RestLaws.{agrees_keeps, steady_keeps}
+use Rattle.sm_ready.proofs.LogLaws.{holds_keeps, holds_ready, logged_left}
 use Rattle.sm_ready.proofs.RowLaws.{found_in, image_named}
 use Rattle.sm_ready.proofs.ShapeLaws.{mgt_image}
 use Rattle.sm_ready.proofs.StepLaws.{no_stray_last}
@@ -115,7 +117,7 @@ module _ (s : Site) (t : VolumeTable) (m : Known) (own : Name) (added : TreeRow)
   beside = record { there = h.there; fresh = h.fresh; allows = record { row = row; there = h.there; not_mgt = not_mgt }; image = h.image }
 
   -- there is room for the image beside the others
-  room : record_extents s.geometry.extent + (added.extents + image_extents (map machine_row m.rows)) ≤ s.count
+  room : log_extents m.logs + record_extents s.geometry.extent + (added.extents + image_extents (map machine_row m.rows)) ≤ s.count
   room =
       let alone = goes_alone h.orderly.table beside in
       let o = orderly_beside s t m own row (Remove own) h.orderly beside alone in
@@ -222,8 +224,9 @@ module _ (s : Site) (t : VolumeTable) (m : Known) (own : Name) (added : TreeRow)
         (ap reading (sector-one (record_sector r) (sector_fits r h.recorded).long) ∙ reading_again r h.recorded)
 
     -- in front of the commit
-    pub put_fine : (before : Leaving) (ds : List Disk) → MayShow s before was → IsFine (ShowsBetween s before was ds) (worked (at s t area) new)
-    put_fine before ds might = safe_fine ds (middle_safe s t m base new k r before was h.orderly f.ready stray middle (volume_rested s t (reads area)) f.shown might)
+    pub put_fine : (before : Leaving) (ds : List Disk) → MayShow s before was → IsFine (ShowsBetween s before was ds m.logs) (worked (at s t area) new)
+    put_fine before ds might = safe_fine m.logs ds (middle_safe s t m base new k r before was h.orderly f.ready stray middle (volume_rested s t (reads area)) f.shown might)
+        (logged_left (holds_keeps (holds_ready s t base m h.orderly f.ready) new middle.logs) h.orderly.table)
 
     module _ (wrote : Wrote k (record_sector r) (records_held s t area) (records_held s t new)) (steady : IsSteady s.geometry (added.extents * s.geometry.extent) (volume_of s t base own) added.image) where
       written : IsWritten s t m base new own added k r
@@ -245,7 +248,7 @@ module _ (s : Site) (t : VolumeTable) (m : Known) (own : Name) (added : TreeRow)
         shown_made = disks_last s t m base new own added k r row made_is stepped_is written ∙ ap₂ with_disk disk_is f.shown
 
         -- and behind it
-        pub made_fine : (before : Leaving) → IsFine (ShowsBetween s before was (with_disk made was)) (at s (after t own) (at_rest (reads new)))
+        pub made_fine : (before : Leaving) → IsFine (ShowsBetween s before was (with_disk made was) m.logs) (at s (after t own) (at_rest (reads new)))
         made_fine before = ready_fine s (after t own) (made_memory added k r m) (reads new) before was (with_disk made was) made_orderly ready_made shown_made
 
         pub made_rested : IsReadyWith (made_memory added k r m) (with_disk made was) (at s (after t own) (at_rest (reads new)))

@@ -41,6 +41,7 @@ use Rattle.sm_ready.specs.Stores.{Leaving, MayShow, StoreLeaves, content_now, st
 use Rattle.sm_ready.specs.declared.memory.Memory.{Memory}
 use Rattle.sm_ready.proofs.BeginLaws.{IsToBegin, begun_there, fits_begun_as, may_begin, new_begun, orderly_begun_as, stray_for}
 use Rattle.sm_ready.proofs.BesideLaws.{IsAlone, IsBeside, orderly_beside}
+use Rattle.sm_ready.proofs.LogLaws.{holds_ready, logged_left}
 use Rattle.sm_ready.proofs.ChainLaws.{might_show, only_crash, stored_same, tab}
 use Rattle.sm_ready.proofs.CommitLaws.{ready_safe}
 use Rattle.sm_ready.proofs.FitLaws.{fits_orderly}
@@ -91,7 +92,7 @@ thin_some s slots = thin-positive s.geometry.extent s.geometry.block s.geometry.
 module _ {S : Type 0} {g : Ghosts S} where
   -- ---- what was done so far
 
-  pub so_far_first : {a : S} (m : Memory) → LeavesNow g → g.failed a ≡ false → IsOrderlyStore g a m → IsReadyStore g a m → IsSoFar g (ShowsStill g a) (λ y. y ≡ stored g a) a a
+  pub so_far_first : {a : S} (m : Memory) → LeavesNow g → g.failed a ≡ false → IsOrderlyStore g a m → IsReadyStore g a m → IsSoFar g (ShowsStill g m a) (λ y. y ≡ stored g a) a a
   so_far_first {a} m leaves usable o ready = record {
     site = refl;
     faults = omega arith;
@@ -99,8 +100,9 @@ module _ {S : Type 0} {g : Ghosts S} where
     beside = λ told. Keeps-none (g.beside a);
     left = λ told t image l.
         let c = left_choice g.told (g.site a) (tab g a) (g.area a) (g.leaves a) (g.failed a) (leaves a told usable) t image l in
-        subst (λ v. ShowsStill g a v image) (sym c.table_is)
-        (safe_fine (was g a) (ready_safe (g.site a) (tab g a) (g.area a) (known m) (StoreLeaves g a) o ready (λ i is. inr (told, usable, is))) image c.sectors);
+        subst (λ v. ShowsStill g m a v image) (sym c.table_is)
+        (safe_fine (known m).logs (was g a) (ready_safe (g.site a) (tab g a) (g.area a) (known m) (StoreLeaves g a) o ready (λ i is. inr (told, usable, is)))
+        (logged_left (holds_ready (g.site a) (tab g a) (g.area a) (known m) o ready) o.table) image c.sectors);
     now = λ told. refl;
   }
 
@@ -192,22 +194,22 @@ module _ {S : Type 0} {g : Ghosts S} where
     abbrev calls : List Call
     calls = Commit (Create (Vhd u) true es) ∷ []
 
-    at_begin : IsSoFar g (ShowsStill g a) (λ y. y ≡ stored g a) a p
+    at_begin : IsSoFar g (ShowsStill g m a) (λ y. y ≡ stored g a) a p
     at_begin = so_far_reads (λ y. y ≡ stored g a) reads area fewer (so_far_first m leaves session.usable session.orderly ready)
 
-    goes : (y : Stored) → y ≡ stored g a → GoesOn (ShowsStill g a) (IsFilling (known m) (Vhd u) (was g a)) y calls
+    goes : (y : Stored) → y ≡ stored g a → GoesOn (ShowsStill g m a) (IsFilling (known m) (Vhd u) (was g a)) y calls
     goes y is =
         let new = new_begun (g.site a) (tab g a) (known m) (Vhd u) es u (begins m u es session may proper some free) in
-        subst (λ z. GoesOn (ShowsStill g a) (IsFilling (known m) (Vhd u) (was g a)) z calls) (sym is) (
+        subst (λ z. GoesOn (ShowsStill g m a) (IsFilling (known m) (Vhd u) (was g a)) z calls) (sym is) (
           made_fine (g.site a) (tab g a) (g.area a) (known m) (Vhd u) es (was g a) (StoreLeaves g a) session.orderly ready new refl,
           made_filling (g.site a) (tab g a) (g.area a) (known m) (Vhd u) es (was g a) (StoreLeaves g a) session.orderly ready new refl,
         )
 
     pub since_begun : {b : S} → DoesRun g calls p b (Unit {0}) → ImportsSince g u m a b
-    since_begun run = record { usable = session.usable; so_far = so_far_then (ShowsStill g a) (λ y. y ≡ stored g a) (IsFilling (known m) (Vhd u) (was g a)) at_begin calls tt run (λ told y is. goes y is) }
+    since_begun run = record { usable = session.usable; so_far = so_far_then (ShowsStill g m a) (λ y. y ≡ stored g a) (IsFilling (known m) (Vhd u) (was g a)) at_begin calls tt run (λ told y is. goes y is) }
 
-    pub stops_begun : {b : S} {ok : Type 0} → DoesRun g calls p b ok → LeavesStill g a b
-    stops_begun run = so_far_cut (ShowsStill g a) (λ y. y ≡ stored g a) (IsFilling (known m) (Vhd u) (was g a)) at_begin calls run (λ told y is. goes y is)
+    pub stops_begun : {b : S} {ok : Type 0} → DoesRun g calls p b ok → LeavesStill g m a b
+    stops_begun run = so_far_cut (ShowsStill g m a) (λ y. y ≡ stored g a) (IsFilling (known m) (Vhd u) (was g a)) at_begin calls run (λ told y is. goes y is)
 
   -- its commit, and the session behind it
   module _ {a p : S} (m : Memory) (u es : List ℕ) (session : IsBetweenSteps g a m) (may : MayImport (known m) u) (proper : IsUuid u) (some : 0 < length es) (free : AreFree (g.site a).count (tab g a).volumes es)
@@ -231,7 +233,7 @@ module _ {S : Type 0} {g : Ghosts S} where
 
   -- where it only read
   pub stops_unbegun : {a p : S} (m : Memory) → LeavesNow g → IsBetweenSteps g a m → IsReadyStore g a m → OnlyReads g a p → g.area p ≡ g.area a
-      → ((t : VolumeTable) (image : ℕ → List ℕ) → g.leaves p t image → g.leaves a t image) → LeavesStill g a p
+      → ((t : VolumeTable) (image : ℕ → List ℕ) → g.leaves p t image → g.leaves a t image) → LeavesStill g m a p
   stops_unbegun {a} m leaves session ready reads area fewer = (so_far_reads (λ y. y ≡ stored g a) reads area fewer (so_far_first m leaves session.usable session.orderly ready)).left
 
   -- ---- calls that only read, and writes to the volume
@@ -344,50 +346,51 @@ module _ {S : Type 0} {g : Ghosts S} where
   -- since the begin
   module _ {a b p : S} {m : Memory} {u : List ℕ} (c : Change) (since : ImportsSince g u m a b) (h : IsImporting g b m u) (allows : Permits (g.site b).count (tab g b) c) (alone : IsAlone (tab g b) (Vhd u) c)
       (reads : OnlyReads g b p) (area : g.area p ≡ g.area b) (fewer : (t : VolumeTable) (image : ℕ → List ℕ) → g.leaves p t image → g.leaves b t image) where
-    before_change : IsSoFar g (ShowsStill g a) (λ y. y ≡ stored g b) a p
+    before_change : IsSoFar g (ShowsStill g m a) (λ y. y ≡ stored g b) a p
     before_change = so_far_reads (λ y. y ≡ stored g b) reads area fewer (so_far_now since.so_far)
 
-    to_filling : g.told → (y : Stored) → y ≡ stored g b → GoesOn (ShowsStill g a) (IsFilling (known m) (Vhd u) (was g a)) y (Commit c ∷ [])
+    to_filling : g.told → (y : Stored) → y ≡ stored g b → GoesOn (ShowsStill g m a) (IsFilling (known m) (Vhd u) (was g a)) y (Commit c ∷ [])
     to_filling told y is =
         let f = since.so_far.now told in
         let k = beside_now c h allows in
-        subst (λ z. GoesOn (ShowsStill g a) (IsFilling (known m) (Vhd u) (was g a)) z (Commit c ∷ [])) (sym is)
-        (subst (λ s. GoesOn (ShowsBetween s (StoreLeaves g a) (was g a) (was g a)) (IsFilling (known m) (Vhd u) (was g a)) (stored g b) (Commit c ∷ [])) since.so_far.site (
+        subst (λ z. GoesOn (ShowsStill g m a) (IsFilling (known m) (Vhd u) (was g a)) z (Commit c ∷ [])) (sym is)
+        (subst (λ s. GoesOn (ShowsBetween s (StoreLeaves g a) (was g a) (was g a) (known m).logs) (IsFilling (known m) (Vhd u) (was g a)) (stored g b) (Commit c ∷ [])) since.so_far.site (
           then_fine (g.site b) (tab g b) (g.area b) (known m) (Vhd u) h.volume.row c (was g a) (StoreLeaves g a) h.orderly f k alone,
           then_filling (g.site b) (tab g b) (g.area b) (known m) (Vhd u) h.volume.row c (was g a) (StoreLeaves g a) h.orderly f k alone,
         ))
 
-    to_rest : g.told → (y : Stored) → y ≡ stored g b → GoesOn (ShowsStill g a) (IsReadyWith (known m) (was g a)) y (Commit c ∷ [])
+    to_rest : g.told → (y : Stored) → y ≡ stored g b → GoesOn (ShowsStill g m a) (IsReadyWith (known m) (was g a)) y (Commit c ∷ [])
     to_rest told y is =
         let f = since.so_far.now told in
         let k = beside_now c h allows in
-        subst (λ z. GoesOn (ShowsStill g a) (IsReadyWith (known m) (was g a)) z (Commit c ∷ [])) (sym is)
-        (subst (λ s. GoesOn (ShowsBetween s (StoreLeaves g a) (was g a) (was g a)) (IsReadyWith (known m) (was g a)) (stored g b) (Commit c ∷ [])) since.so_far.site (
+        subst (λ z. GoesOn (ShowsStill g m a) (IsReadyWith (known m) (was g a)) z (Commit c ∷ [])) (sym is)
+        (subst (λ s. GoesOn (ShowsBetween s (StoreLeaves g a) (was g a) (was g a) (known m).logs) (IsReadyWith (known m) (was g a)) (stored g b) (Commit c ∷ [])) since.so_far.site (
           then_fine (g.site b) (tab g b) (g.area b) (known m) (Vhd u) h.volume.row c (was g a) (StoreLeaves g a) h.orderly f k alone,
           then_rested (g.site b) (tab g b) (g.area b) (known m) (Vhd u) h.volume.row c (was g a) (StoreLeaves g a) h.orderly f k alone,
         ))
 
     pub since_change : {d : S} → DoesRun g (Commit c ∷ []) p d (Unit {0}) → ImportsSince g u m a d
-    since_change run = record { usable = since.usable; so_far = so_far_then (ShowsStill g a) (λ y. y ≡ stored g b) (IsFilling (known m) (Vhd u) (was g a)) before_change (Commit c ∷ []) tt run to_filling }
+    since_change run = record { usable = since.usable; so_far = so_far_then (ShowsStill g m a) (λ y. y ≡ stored g b) (IsFilling (known m) (Vhd u) (was g a)) before_change (Commit c ∷ []) tt run to_filling }
 
-    pub stops_change : {d : S} {ok : Type 0} → DoesRun g (Commit c ∷ []) p d ok → LeavesStill g a d
-    stops_change run = so_far_cut (ShowsStill g a) (λ y. y ≡ stored g b) (IsFilling (known m) (Vhd u) (was g a)) before_change (Commit c ∷ []) run to_filling
+    pub stops_change : {d : S} {ok : Type 0} → DoesRun g (Commit c ∷ []) p d ok → LeavesStill g m a d
+    stops_change run = so_far_cut (ShowsStill g m a) (λ y. y ≡ stored g b) (IsFilling (known m) (Vhd u) (was g a)) before_change (Commit c ∷ []) run to_filling
 
     pub ends_change : {d : S} (ok : Type 0) → DoesRun g (Commit c ∷ []) p d (Unit {0}) → g.told
         → HasDone (g.site a) (tab g a) (tab g d) (g.area a) (g.area d) (known m) (StoreLeaves g a) (StoreLeaves g d) ok (was g a)
     ends_change {d} ok run told =
-        let so = so_far_then (ShowsStill g a) (λ y. y ≡ stored g b) (IsReadyWith (known m) (was g a)) before_change (Commit c ∷ []) tt run to_rest in
+        let so = so_far_then (ShowsStill g m a) (λ y. y ≡ stored g b) (IsReadyWith (known m) (was g a)) before_change (Commit c ∷ []) tt run to_rest in
         let now = so.now told in
         record {
           ready = λ fine. subst (λ s. IsReady s (tab g d) (g.area d) (known m)) so.site now.ready;
           settled = λ fine. now.settled;
           shown = λ fine. subst (λ s. disks (content_now s (tab g d) (g.area d)) ≡ was g a) so.site now.shown;
-          crash = so.left told;
+          crash = λ v image l. let w = so.left told v image l in (w.0, w.1);
+          logged = λ v image l. let w = so.left told v image l in w.2;
         }
 
     pub ends_cut : {d : S} {came : Type 0} (ok : Type 0) → (ok → ⊥) → DoesRun g (Commit c ∷ []) p d came → g.told
         → HasDone (g.site a) (tab g a) (tab g d) (g.area a) (g.area d) (known m) (StoreLeaves g a) (StoreLeaves g d) ok (was g a)
-    ends_cut ok never run told = only_crash never (stops_change run told)
+    ends_cut ok never run told = only_crash never (λ v image l. let w = stops_change run told v image l in (w.0, w.1)) (λ v image l. let w = stops_change run told v image l in w.2)
 
   -- ---- it goes
 
@@ -437,7 +440,7 @@ module _ {S : Type 0} {g : Ghosts S} where
   pub since_works : {a b d : S} {m : Memory} {u : List ℕ} → LeavesNow g → WorksOn g (Vhd u) b d → IsImporting g b m u → ImportsSince g u m a b → ImportsSince g u m a d
   since_works {a} {b} {d} {m} {u} leaves works h since = record {
     usable = since.usable;
-    so_far = so_far_then (ShowsStill g a) (λ y. y ≡ stored g b) (IsFilling (known m) (Vhd u) (was g a)) (so_far_now since.so_far) (Work wrote Anything ∷ []) tt
+    so_far = so_far_then (ShowsStill g m a) (λ y. y ≡ stored g b) (IsFilling (known m) (Vhd u) (was g a)) (so_far_now since.so_far) (Work wrote Anything ∷ []) tt
         (run_works {ok = Unit {0}} h.usable works.stays works.elsewhere (λ ok told. ok) (λ told. leaves d told (works.stays.failed ∙ h.usable))) goes;
   }
     where
@@ -450,13 +453,13 @@ module _ {S : Type 0} {g : Ghosts S} where
       stray : IsStray (known m) (unwrap_or (place_for m.records u) 0) entry
       stray = stray_for (g.site b) (tab g b) (known m) (unwrap_or (place_for m.records u) 0) entry h.orderly h.no_stray h.may.absent (some_of (place_for m.records u) h.place)
 
-      goes : g.told → (y : Stored) → y ≡ stored g b → GoesOn (ShowsStill g a) (IsFilling (known m) (Vhd u) (was g a)) y (Work wrote Anything ∷ [])
+      goes : g.told → (y : Stored) → y ≡ stored g b → GoesOn (ShowsStill g m a) (IsFilling (known m) (Vhd u) (was g a)) y (Work wrote Anything ∷ [])
       goes told y is =
           let f = since.so_far.now told in
           let s = g.site b in
           let might = might_show g since.usable told in
-          subst (λ z. GoesOn (ShowsStill g a) (IsFilling (known m) (Vhd u) (was g a)) z (Work wrote Anything ∷ [])) (sym is)
-          (subst (λ z. GoesOn (ShowsBetween z (StoreLeaves g a) (was g a) (was g a)) (IsFilling (known m) (Vhd u) (was g a)) (stored g b) (Work wrote Anything ∷ [])) since.so_far.site (
+          subst (λ z. GoesOn (ShowsStill g m a) (IsFilling (known m) (Vhd u) (was g a)) z (Work wrote Anything ∷ [])) (sym is)
+          (subst (λ z. GoesOn (ShowsBetween z (StoreLeaves g a) (was g a) (was g a) (known m).logs) (IsFilling (known m) (Vhd u) (was g a)) (stored g b) (Work wrote Anything ∷ [])) since.so_far.site (
             λ new did. wrote_fine s (tab g b) (g.area b) new (known m) (Vhd u) h.volume.row (was g a) h.orderly (vhd_image u) h.volume.there h.volume.fresh f did _ entry stray (StoreLeaves g a)
                 (subst (λ z. MayShow z (StoreLeaves g a) (was g a)) (sym since.so_far.site) might),
             λ new did done. wrote_filling s (tab g b) (g.area b) new (known m) (Vhd u) h.volume.row (was g a) h.orderly (vhd_image u) h.volume.there h.volume.fresh f did _ entry stray,

@@ -6,7 +6,7 @@ use Rattle.std.proofs.Props.{props}
 use Rattle.std.proofs.lemmas.Option.{none-some}
 use Rattle.std.proofs.lemmas.Bool.{true≢false}
 use Rattle.sm_base.specs.declared.names.Name.{Name}
-use Rattle.sm_base.specs.declared.names.Name.TheVariants.{Mgt}
+use Rattle.sm_base.specs.declared.names.Name.TheVariants.{Mgt, Cbt}
 use Rattle.sm_disk.specs.Held.{Held, Keeps, May, reads}
 use Rattle.sm_disk.proofs.HeldLaws.{Keeps-then, May-reads, may_settled}
 use Rattle.vg_meta.specs.Tables.{VolumeTable, Row, extents_of, rows}
@@ -43,6 +43,8 @@ use Rattle.sm_ready.proofs.MiddleLaws.{middle_disks, middle_in, middle_safe}
 use Rattle.sm_ready.proofs.OperationLaws.{below_alike}
 use Rattle.sm_ready.proofs.Orders.{new_unrowed}
 use Rattle.sm_ready.proofs.RestLaws.{agrees_keeps, keeps_rest, steady_keeps}
+use Rattle.sm_ready.proofs.LogLaws.{HoldsLogs, holds_keeps, holds_ready, logged_left}
+use Rattle.sm_ready.proofs.LogRows.{name_apart}
 use Rattle.sm_ready.proofs.RowLaws.{image_named, tree_found}
 use Rattle.sm_ready.proofs.ShapeLaws.{mgt_image}
 use Rattle.sm_calls.specs.Calls.{IsFine, IsReadyWith, ShowsBetween, worked}
@@ -63,7 +65,7 @@ module _ (s : Site) (t : VolumeTable) (area : Held) (m : Known) (x : Name) (es :
   made_shown : disks (content_now s (applied t (Create x true es)) (at_rest (reads area))) ≡ was
   made_shown = disks_new s t area m x es o ready h ∙ shown
 
-  pub made_fine : IsFine (ShowsBetween s before was was) (committed (at s t area) (Create x true es))
+  pub made_fine : IsFine (ShowsBetween s before was was m.logs) (committed (at s t area) (Create x true es))
   made_fine = ready_fine s (applied t (Create x true es)) m (reads area) before was was made_orderly (ready_new s t area m x es o ready h) made_shown
 
   pub made_filling : IsFilling m x was (committed (at s t area) (Create x true es))
@@ -79,7 +81,7 @@ module _ (s : Site) (t : VolumeTable) (area : Held) (m : Known) (x : Name) (r : 
   then_shown : disks (content_now s (applied t c) (at_rest (reads area))) ≡ was
   then_shown = disks_beside s t (at_rest (reads area)) m x r c o f.ready h alone ∙ f.shown
 
-  pub then_fine : IsFine (ShowsBetween s before was was) (committed (at s t area) c)
+  pub then_fine : IsFine (ShowsBetween s before was was m.logs) (committed (at s t area) c)
   then_fine = ready_fine s (applied t c) m (reads area) before was was (orderly_beside s t m x r c o h alone) then_ready then_shown
 
   pub then_filling : IsFilling m x was (committed (at s t area) c)
@@ -113,6 +115,7 @@ module _ (s : Site) (t : VolumeTable) (area new : Held) (m : Known) (x : Name) (
   middle : IsMiddle s t m base new k entry
   middle = record {
     images = λ q i. volume_kept (row_name q) (image_away s t m x r o image there fresh q i);
+    logs = λ v. volume_kept (Cbt v) (name_apart x image v);
     records = λ p v below may. inl ((volume_kept Mgt records_away).may p v may);
   }
 
@@ -121,6 +124,9 @@ module _ (s : Site) (t : VolumeTable) (area new : Held) (m : Known) (x : Name) (
 
   image_same : (n : Name) → image_of (content_now s t (at_rest (reads new))) n ≡ image_of (content_now s t base) n
   image_same n = image_quiet s t base m (reads new) n o f.ready.firm (middle_in s t m base new k entry o f.ready stray.within middle (reads new) (left_now s new)) (volume_rested s t (reads area) n)
+
+  base_logs : HoldsLogs s t base m.logs
+  base_logs = holds_ready s t base m o f.ready
 
   wrote_ready : IsReady s t (at_rest (reads new)) m
   wrote_ready = record {
@@ -132,6 +138,8 @@ module _ (s : Site) (t : VolumeTable) (area new : Held) (m : Known) (x : Name) (
     };
     records = agrees_keeps (records_held s t base) (records_held s t (at_rest (reads new))) m.places (rested Mgt records_away) f.ready.records;
     recorded = volume_rested s t (reads new) Mgt;
+    logs = (holds_keeps base_logs (at_rest (reads new)) (λ v. rested (Cbt v) (name_apart x image v))).logs;
+    logged = λ v. volume_rested s t (reads new) (Cbt v);
   }
 
   wrote_beside : KeepsElsewhere s.geometry.extent (extents_of (rows t x)) (at_rest (reads new)) new
@@ -147,5 +155,6 @@ module _ (s : Site) (t : VolumeTable) (area new : Held) (m : Known) (x : Name) (
     shown = middle_disks s t m base new k entry o f.ready stray middle (reads new) (left_now s new) (volume_rested s t (reads area)) ∙ f.shown;
   }
 
-  pub wrote_fine : (before : Leaving) → MayShow s before was → IsFine (ShowsBetween s before was was) (worked (at s t area) new)
-  wrote_fine before might = safe_fine was (middle_safe s t m base new k entry before was o f.ready stray middle (volume_rested s t (reads area)) f.shown might)
+  pub wrote_fine : (before : Leaving) → MayShow s before was → IsFine (ShowsBetween s before was was m.logs) (worked (at s t area) new)
+  wrote_fine before might = safe_fine m.logs was (middle_safe s t m base new k entry before was o f.ready stray middle (volume_rested s t (reads area)) f.shown might)
+      (logged_left (holds_keeps base_logs new middle.logs) o.table)

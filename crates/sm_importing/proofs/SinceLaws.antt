@@ -38,7 +38,7 @@ module _ {S : Type 0} {g : Ghosts S} {o : Begin S} {s : S} {m : Memory} {u : Lis
       few = λ whole begun. subst (λ x. HasCommits (extents_of_volume (tab g n) (Vhd u)) (tab g x) (tab g n)) at few;
     }
 
-    pub since_unmade : (g.told → IsReadyStore g s m → LeavesStill g s n) → IsSince g o n m u false true
+    pub since_unmade : (g.told → IsReadyStore g s m → LeavesStill g m s n) → IsSince g o n m u false true
     since_unmade stops = record {
       memory = h.memory;
       disk = h.disk;
@@ -46,13 +46,13 @@ module _ {S : Type 0} {g : Ghosts S} {o : Begin S} {s : S} {m : Memory} {u : Lis
       beside = λ told. Keeps-then (h.beside told) (kept told);
       unbegun = λ whole begun. absurd (true≢false whole);
       goes_on = λ told ready whole begun. absurd (true≢false whole);
-      stops = λ told ready over. subst (λ x. LeavesStill g x n) at (stops told (ready_at ready));
+      stops = λ told ready over. subst₂ (λ y x. LeavesStill g y x n) h.memory at (stops told (ready_at ready));
       counts = omega (arith, h.counts, more);
       failed = λ over begun. absurd (true≢false (sym begun));
       few = λ whole begun. absurd (true≢false whole);
     }
 
-    pub since_cut : Rose (g.faults s) (g.faults n) → (g.told → IsReadyStore g s m → LeavesStill g s n) → IsSince g o n m u true true
+    pub since_cut : Rose (g.faults s) (g.faults n) → (g.told → IsReadyStore g s m → LeavesStill g m s n) → IsSince g o n m u true true
     since_cut rose stops = record {
       memory = h.memory;
       disk = h.disk;
@@ -60,7 +60,7 @@ module _ {S : Type 0} {g : Ghosts S} {o : Begin S} {s : S} {m : Memory} {u : Lis
       beside = λ told. Keeps-then (h.beside told) (kept told);
       unbegun = λ whole begun. absurd (true≢false whole);
       goes_on = λ told ready whole begun. absurd (true≢false whole);
-      stops = λ told ready over. subst (λ x. LeavesStill g x n) at (stops told (ready_at ready));
+      stops = λ told ready over. subst₂ (λ y x. LeavesStill g y x n) h.memory at (stops told (ready_at ready));
       counts = omega (arith, h.counts, more);
       failed = λ over begun. omega (arith, h.counts, rose);
       few = λ whole begun. absurd (true≢false whole);
@@ -96,7 +96,7 @@ module _ {S : Type 0} {g : Ghosts S} {o : Begin S} {s : S} {m : Memory} {u : Lis
       beside = λ told. Keeps-then (h.beside told) (kept told);
       unbegun = λ whole begun. absurd (true≢false whole);
       goes_on = λ told ready whole begun. absurd (true≢false whole);
-      stops = λ told ready over. stops o.store (before told ready);
+      stops = λ told ready over. subst (λ y. LeavesStill g y o.store n) h.memory (stops o.store (before told ready));
       counts = omega (arith, h.counts, more);
       failed = λ over begun. omega (arith, h.counts, rose);
       few = λ whole begun. absurd (true≢false whole);
@@ -108,10 +108,10 @@ module _ {S : Type 0} {g : Ghosts S} {o : Begin S} {s : S} {m : Memory} {u : Lis
     pub made_since : b ≡ false → HasCommits (extents_of_volume (tab g n) (Vhd u)) (tab g s) (tab g n) → (g.told → IsReadyStore g s m → ImportsSince g u m s n) → IsSince g o s m u b v → IsSince g o n m u true v
     made_since new few goes h = subst (λ y. IsSince g o n m u true y) (sym whole) (since_made (subst₂ (λ x y. IsSince g o s m u x y) new whole h) few goes)
 
-    pub unmade_since : b ≡ false → (g.told → IsReadyStore g s m → LeavesStill g s n) → IsSince g o s m u b v → IsSince g o n m u b true
+    pub unmade_since : b ≡ false → (g.told → IsReadyStore g s m → LeavesStill g m s n) → IsSince g o s m u b v → IsSince g o n m u b true
     unmade_since new stops h = subst (λ x. IsSince g o n m u x true) (sym new) (since_unmade (subst₂ (λ x y. IsSince g o s m u x y) new whole h) stops)
 
-    pub cut_since : b ≡ false → Rose (g.faults s) (g.faults n) → (g.told → IsReadyStore g s m → LeavesStill g s n) → IsSince g o s m u b v → IsSince g o n m u true true
+    pub cut_since : b ≡ false → Rose (g.faults s) (g.faults n) → (g.told → IsReadyStore g s m → LeavesStill g m s n) → IsSince g o s m u b v → IsSince g o n m u true true
     cut_since new rose stops h = since_cut (subst₂ (λ x y. IsSince g o s m u x y) new whole h) rose stops
 
     pub put_since : b ≡ true → GrowsEachCommit (Vhd u) (tab g s) (tab g n) → GoesOnImporting g u m s n → IsSince g o s m u b v → IsSince g o n m u b v

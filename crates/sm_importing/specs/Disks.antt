@@ -127,7 +127,7 @@ pub record IsSince {S : Type 0} (g : Ghosts S) (o : Begin S) (s : S) (m : Memory
   pub beside : g.told → Keeps (g.beside o.store) (g.beside s)
   pub unbegun : over ≡ false → begun ≡ false → s ≡ o.store
   pub goes_on : g.told → IsReadyStore g o.store o.memory → over ≡ false → begun ≡ true → ImportsSince g o.disk o.memory o.store s
-  pub stops : g.told → IsReadyStore g o.store o.memory → over ≡ true → LeavesStill g o.store s
+  pub stops : g.told → IsReadyStore g o.store o.memory → over ≡ true → LeavesStill g o.memory o.store s
   pub counts : g.faults o.store ≤ g.faults s
   pub failed : over ≡ true → begun ≡ true → Rose (g.faults o.store) (g.faults s)
   pub few : over ≡ false → begun ≡ true → HasCommits (extents_of_volume (table_alone (g.table s)) (Vhd u)) (table_alone (g.table o.store)) (table_alone (g.table s))

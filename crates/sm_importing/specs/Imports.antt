@@ -68,18 +68,18 @@ pub record IsFilling (m : Known) (n : Name) (ds : List Disk) (x : Stored) : Type
   pub beside : KeepsElsewhere x.site.geometry.extent (extents_of (rows x.table n)) (at_rest (reads x.area)) x.area
   pub shown : disks (content_now x.site x.table x.area) ≡ ds
 
--- what is kept, and shows the disks that a store had
-abbrev pub ShowsStill : {S : Type 0} → Ghosts S → S → Leaving
-ShowsStill g a = ShowsBetween (g.site a) (StoreLeaves g a) (disks (store_content g a)) (disks (store_content g a))
+-- what is kept, shows the disks that a store had, and has the logs of memory
+abbrev pub ShowsStill : {S : Type 0} → Ghosts S → Memory → S → Leaving
+ShowsStill g m a = ShowsBetween (g.site a) (StoreLeaves g a) (disks (store_content g a)) (disks (store_content g a)) (known m).logs
 
 -- From a store on a disk of this UUID was imported: whatever a stop leaves is kept and shows the disks from before.
 pub record ImportsSince {S : Type 0} (g : Ghosts S) (u : List ℕ) (m : Memory) (a s : S) : Type 0 where
   pub usable : g.failed a ≡ false
-  pub so_far : IsSoFar g (ShowsStill g a) (IsFilling (known m) (Vhd u) (disks (store_content g a))) a s
+  pub so_far : IsSoFar g (ShowsStill g m a) (IsFilling (known m) (Vhd u) (disks (store_content g a))) a s
 
--- whatever a stop of the later store leaves is kept, and shows the disks that the earlier one had
-abbrev pub LeavesStill : {S : Type 0} → Ghosts S → S → S → Type 0
-LeavesStill g a s = g.told → (t : VolumeTable) (image : ℕ → List ℕ) → StoreLeaves g s t image → ShowsStill g a t image
+-- whatever a stop of the later store leaves is kept, shows the disks that the earlier one had, and has the logs of memory
+abbrev pub LeavesStill : {S : Type 0} → Ghosts S → Memory → S → S → Type 0
+LeavesStill g m a s = g.told → (t : VolumeTable) (image : ℕ → List ℕ) → StoreLeaves g s t image → ShowsStill g m a t image
 
 -- since whatever store the import began, it goes on
 abbrev pub GoesOnImporting : {S : Type 0} → Ghosts S → List ℕ → Memory → S → S → Type 0
@@ -87,7 +87,7 @@ GoesOnImporting {S} g u m old new = (a : S) → ImportsSince g u m a old → Imp
 
 -- since whatever store the import began, a stop leaves the disks from before
 abbrev pub StopsImporting : {S : Type 0} → Ghosts S → List ℕ → Memory → S → S → Type 0
-StopsImporting {S} g u m old new = (a : S) → ImportsSince g u m a old → LeavesStill g a new
+StopsImporting {S} g u m old new = (a : S) → ImportsSince g u m a old → LeavesStill g m a new
 
 -- since whatever store the import began, its end leaves the disks from before, and where it succeeds (ok) the store is ready for them
 abbrev pub EndsImporting : {S : Type 0} → Ghosts S → List ℕ → Memory → S → S → Type 0 → Type 0

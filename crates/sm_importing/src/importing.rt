@@ -109,7 +109,7 @@ pub fn begin<S: Store>(
     ensures volumes { OnOk result (without (Vhd disk.now) (table_alone (S.table store.new)).volumes ≡ (table_alone (S.table store.old)).volumes) }
     ensures importing { OnOk result (IsImporting S.Store store.new memory.now disk.now) }
     ensures since { OnOk result (S.told → IsReadyStore S.Store store.old memory.now → ImportsSince S.Store disk.now memory.now store.old store.new) }
-    ensures stops { S.told → IsReadyStore S.Store store.old memory.now → LeavesStill S.Store store.old store.new }
+    ensures stops { S.told → IsReadyStore S.Store store.old memory.now → LeavesStill S.Store memory.now store.old store.new }
 {
     law_uuid(disk.as_bytes());
     let need = store.geometry().thin(0) as u32;

@@ -1,6 +1,8 @@
 -- The blocks of a disk by the images in memory are those of the disk that a read of a ready store gives.
 use Rattle.std.proofs.Common.{◌≡◌, ℕ, zero, suc, ◌*◌, ◌≤◌, Bool, true, false, List, map, Option, Some, None, is_some, refl, sym, ap, ap₂, ◌∙◌, subst, arith}
+use Rattle.std.proofs.Math.Logic.{∥∥₁_elim}
 use Rattle.std.proofs.Math.Path.{fun_ext}
+use Rattle.std.proofs.Props.{props}
 use Rattle.std.proofs.lemmas.Bool.{true≢false}
 use Rattle.std.proofs.lemmas.Option.{none-some, same_Some}
 use Rattle.std.proofs.lemmas.Slice.Eq.{bytes_eq-Decides}
@@ -18,11 +20,11 @@ use Rattle.vhd_image.specs.Bodies.{sector_count, parent_name}
 use Rattle.vhd_chain.specs.Reading.{chain_reads, slots_of}
 use Rattle.vhd_chain.specs.Trees.{row_name, tree_row}
 use Rattle.vhd_chain.specs.declared.rows.TreeRow.{TreeRow}
-use Rattle.sm_machine.specs.Shapes.{DiskRecord, ImageRow, Shape, chain_limit, disk_record, image_uuid}
+use Rattle.sm_machine.specs.Shapes.{DiskRecord, ImageRow, chain_limit, disk_record, image_uuid}
 use Rattle.sm_machine.specs.WellFormed.{IsWellFormed}
 use Rattle.sm_standing.specs.Contents.{Content}
 use Rattle.sm_standing.specs.Images.{Image, image_of, sectors_read}
-use Rattle.sm_standing.specs.Shapes.{image_row, image_rows, row_of, shape}
+use Rattle.sm_standing.specs.Shapes.{image_row, image_rows, row_of}
 use Rattle.sm_standing.specs.Standing.{standing_volume}
 use Rattle.sm_standing.proofs.Orders.{In-filter_map}
 use Rattle.sm_ready.specs.Known.{Known, machine_row, shape_in}
@@ -30,7 +32,7 @@ use Rattle.sm_ready.specs.Orderly.{IsOrderly}
 use Rattle.sm_ready.specs.Ready.{IsReady, IsTidy}
 use Rattle.sm_ready.specs.Stores.{content_now}
 use Rattle.sm_ready.proofs.Orders.{In-tree_row, geometry_of}
-use Rattle.sm_ready.proofs.StrayLaws.{law_state}
+use Rattle.sm_ready.proofs.ShapeLaws.{images_now}
 use Rattle.sm_ready.proofs.TruthLaws.{row_found}
 use Rattle.cmd_guest.specs.Writing.{own_name}
 use Rattle.cmd_guest.proofs.NowLaws.{chain_now, row_read, stands_in}
@@ -102,9 +104,9 @@ module _ (s : Site) (t : VolumeTable) (area : Held) (m : Known) (o : IsOrderly s
     slots : image.slots ≡ slots_of r.image
 
   image_now : (r : TreeRow) → In r m.rows → IsImageOf r
-  unfolding shape_in shape row_of
+  unfolding shape_in row_of
   image_now r i =
-      let images : map machine_row m.rows ≡ image_rows (content_now s t area) = ap (λ (σ : Shape). σ.images) (law_state s t area m o tidy ready).same_shape in
+      let images : map machine_row m.rows ≡ image_rows (content_now s t area) = ∥∥₁_elim o.well_formed (hlevel props) (λ w. sym (images_now s t area m tidy.none_new o ready.firm w)) in
       let at = In-filter_map (row_of (content_now s t area)) t.volumes (machine_row r) (subst (In (machine_row r)) images (In-map_at machine_row m.rows r i)) in
       by at.0 (image_of (content_now s t area) at.0.name) refl at.2
     where

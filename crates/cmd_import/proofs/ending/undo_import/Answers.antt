@@ -17,14 +17,14 @@ returns-then-not-begun-clause-ends g c = λ o bytes since told ready.
     let p = c.into_parts-store in
     let new = sym c.is_begun-begun.ensures ∙ c.if-not-begun.true in
     ends_still g.S.Store o.disk bytes o.memory p.result.1 o.store p.result.0 c.args.fault told
-    (subst (LeavesStill g.S.Store o.store) (sym p.ensures.store)
+    (subst (LeavesStill g.S.Store o.memory o.store) (sym p.ensures.store)
     (still_unbegun g.S.Store o d.store d.memory d.disk g.met.S.Store.leaves_now d.begun d.over since new (p.ensures.session new) told ready))
 
 pub returns-then-over-clause-ends : goal.returns-then-over-clause-ends
 returns-then-over-clause-ends g c = λ o bytes since told ready.
     let p = c.into_parts-store in
     ends_still g.S.Store o.disk bytes o.memory p.result.1 o.store p.result.0 Device told
-    (subst (LeavesStill g.S.Store o.store) (sym p.ensures.store) (since.stops told ready (sym c.is_over-over.ensures ∙ c.if-over.true)))
+    (subst (LeavesStill g.S.Store o.memory o.store) (sym p.ensures.store) (since.stops told ready (sym c.is_over-over.ensures ∙ c.if-over.true)))
 
 pub give_up-requires : goal.give_up-requires
 give_up-requires g c =

@@ -38,7 +38,7 @@ returns-in_err-put_record-clause-completes g c = λ a made since told disk.
     let r = c.requires in
     let s = g.S.Store.site c.args.store.now in
     let t = table_alone (g.S.Store.table c.args.store.now) in
-    completes_cut r.importing r.proper r.writable r.image since made told disk r.steady _ _ (λ fine. err_not_ok _ tt c.from_residual.ensures.0 fine)
+    completes_cut r.importing r.proper r.writable r.image since made told disk r.steady _ _ (λ fine. err_not_ok _ tt c.from_residual.ensures.0 fine) refl
     (run_front (record_calls s t (place_of c.args.memory.now c.args.entry) c.args.entry) (Commit (Mark (Vhd c.args.entry.uuid) Fresh false) ∷ []) c.in_err-put_record.ensures.cut)
 
 pub returns-in_err-commit-clause-completes : goal.returns-in_err-commit-clause-completes
@@ -47,7 +47,7 @@ returns-in_err-commit-clause-completes g c = λ a made since told disk.
     let s = g.S.Store.site c.args.store.now in
     let t = table_alone (g.S.Store.table c.args.store.now) in
     let one : Unit {0} = tt in
-    completes_cut r.importing r.proper r.writable r.image since made told disk r.steady _ _ (λ fine. err_not_ok _ tt c.from_residual-in_err-commit.ensures.0 fine)
+    completes_cut r.importing r.proper r.writable r.image since made told disk r.steady _ _ (λ fine. err_not_ok _ tt c.from_residual-in_err-commit.ensures.0 fine) refl
     (run_then (record_calls s t (place_of c.args.memory.now c.args.entry) c.args.entry) (Commit (Mark (Vhd c.args.entry.uuid) Fresh false) ∷ []) one c.in_ok-put_record.ensures.run c.in_err-commit.ensures.cut)
 
 pub returns-in_err-commit-clause-step : goal.returns-in_err-commit-clause-step
