@@ -13,6 +13,7 @@ use Rattle.sm_base.specs.declared.names.Name.{Name}
 use Rattle.sm_base.specs.declared.names.Name.TheVariants.{Vhd, Raw}
 use Rattle.sm_machine.specs.Operations as op
 use Rattle.sm_disk.specs.Held.{Held, reads}
+use Rattle.sm_log.specs.Logs.{Log}
 use Rattle.vg_meta.specs.Changes.{Permits, applied}
 use Rattle.vg_meta.specs.Tables.{IsTable, Row, VolumeTable, names_of, rows}
 use Rattle.vg_meta.specs.declared.changes.Change.{Change}
@@ -31,6 +32,7 @@ use Rattle.sm_machine.specs.WellFormed.{IsOnlyChild, is_image_name}
 use Rattle.sm_run.specs.Between.{IsBetween}
 use Rattle.sm_standing.specs.Images.{Image, image_of}
 use Rattle.sm_standing.specs.Keeping.{IsKept}
+use Rattle.sm_standing.specs.Logs.{IsLogged}
 use Rattle.sm_standing.specs.Outlines.{Link, link_of}
 use Rattle.sm_standing.specs.Standing.{disks}
 use Rattle.sm_standing.specs.Entries.{names_in}
@@ -50,6 +52,7 @@ use Rattle.sm_ready.proofs.CommitLaws.{IsSafe, law_commit, law_settled, rested, 
 use Rattle.sm_ready.proofs.FitLaws.{fits_orderly}
 use Rattle.sm_ready.proofs.FrameLaws.{true_kept, volume_commits}
 use Rattle.sm_ready.proofs.LeftLaws.{IsLeft, left_in, left_now, links_left}
+use Rattle.sm_ready.proofs.LogLaws.{holds_ready, logged_left}
 use Rattle.sm_ready.proofs.OperationLaws.{below_alike}
 use Rattle.sm_ready.proofs.Orders.{In-tree_row, named_row}
 use Rattle.sm_ready.proofs.PutBackLaws.{row_proper}
@@ -245,7 +248,7 @@ module _ {S : Type 0} {g : Ghosts S} {a b : S} (n : Memory) {k : Kind} {v p : Na
 
   -- ---- where the store tells its content
 
-  module _ (told : g.told) (leaves : LeavesStill (g.site a) (tab g a) (g.area b) (StoreLeaves g a) (disks (store_content g a))) where
+  module _ (told : g.told) (leaves : LeavesStill (g.site a) (tab g a) (g.area b) (StoreLeaves g a) (disks (store_content g a)) (known n).logs) where
     abbrev was : List Disk
     was = disks (store_content g a)
 
@@ -264,9 +267,20 @@ module _ {S : Type 0} {g : Ghosts S} {a b : S} (n : Memory) {k : Kind} {v p : Na
       crash {x} ok commit = law_commit (g.site a) (tab g a) (next (g.site a) (tab g a) (known n) k v p h) (g.area b) (g.area x) (after (g.site a) (tab g a) (known n) k v p h) (StoreLeaves g a) (StoreLeaves g x) ok was was
           safe (orderly_put (g.site a) (tab g a) (known n) k v p h) ready_then commit disks_then
 
-      pub put_failed : {x : S} (l : Known) (ok : Type 0) → (ok → ⊥) → FailsToCommit g b x → ((z : VolumeTable) (image : ℕ → List ℕ) → g.leaves x z image → IsEitherOf (stored g b) (Create (copy_entry k v p) false []) z image)
+      -- and has the logs
+      logged : {x : S} (l : Known) → l.logs ≡ (known n).logs → (ok : Type 0) → IsCommit (g.site a) (tab g a) (next (g.site a) (tab g a) (known n) k v p h) (g.area b) (g.area x) (StoreLeaves g x) ok
+          → (z : VolumeTable) (image : ℕ → List ℕ) → StoreLeaves g x z image → IsLogged (content_in (g.site a) z image) l.logs
+      logged l same_logs ok commit z image at = subst (IsLogged (content_in (g.site a) z image)) (sym same_logs) (by (commit.crash z image at))
+        where
+          by : IsEither (area_size (g.site a)) (tab g a) (next (g.site a) (tab g a) (known n) k v p h) (g.area b) z image → IsLogged (content_in (g.site a) z image) (known n).logs
+          by (inl old) = subst (λ y. IsLogged (content_in (g.site a) y image) (known n).logs) (sym old.table_is) (leaves.logged image old.sectors)
+          by (inr new) = subst (λ y. IsLogged (content_in (g.site a) y image) (known n).logs) (sym new.table_is)
+              (logged_left (holds_ready (g.site a) (next (g.site a) (tab g a) (known n) k v p h) (at_rest (reads (g.area b))) (after (g.site a) (tab g a) (known n) k v p h) (orderly_put (g.site a) (tab g a) (known n) k v p h) ready_then) (orderly_put (g.site a) (tab g a) (known n) k v p h).table image (λ q below. inl (new.sectors q below)))
+
+      pub put_failed : {x : S} (l : Known) → l.logs ≡ (known n).logs → (ok : Type 0) → (ok → ⊥) → FailsToCommit g b x → ((z : VolumeTable) (image : ℕ → List ℕ) → g.leaves x z image → IsEitherOf (stored g b) (Create (copy_entry k v p) false []) z image)
           → HasDoneFrom (g.site a) (tab g x) (g.area x) l (StoreLeaves g a) (StoreLeaves g x) ok (disks (store_content g a)) (disks (store_content g a))
-      put_failed {x} l ok never fails either = only_crash never (crash {x = x} ok (commit_failed g change ok never stays.site stays.table told fails either))
+      put_failed {x} l same_logs ok never fails either =
+          let commit = commit_failed g change ok never stays.site stays.table told fails either in only_crash never (crash {x = x} ok commit) (logged {x = x} l same_logs ok commit)
 
       pub put_done : {x : S} (l : Memory) (ok : Type 0) (c : Commits g (Create (copy_entry k v p) false []) b x)
           → ((z : VolumeTable) (image : ℕ → List ℕ) → g.leaves x z image → IsEitherOf (stored g b) (Create (copy_entry k v p) false []) z image)
@@ -280,6 +294,7 @@ module _ {S : Type 0} {g : Ghosts S} {a b : S} (n : Memory) {k : Kind} {v p : Na
             settled = λ fine. c.settled told;
             shown = λ fine. ap (λ y. disks (content_now (g.site a) (next (g.site a) (tab g a) (known n) k v p h) y)) rests ∙ disks_then;
             crash = crash {x = x} ok (commit_made g change ok stays.site stays.table told c either);
+            logged = logged {x = x} (after (g.site a) (tab g a) (known n) k v p h) refl ok (commit_made g change ok stays.site stays.table told c either);
           })
 
       -- and whatever a stop leaves of the commit shows the disks of an image that might be left before
@@ -298,12 +313,13 @@ module _ {S : Type 0} {g : Ghosts S} {a b : S} (n : Memory) {k : Kind} {v p : Na
               (might_show g usable told)
 
 -- the parent's footers were not written
-pub raise_failed : {S : Type 0} {g : Ghosts S} {a b : S} → Stays g a b → LeavesStill (g.site a) (tab g a) (g.area b) (StoreLeaves g a) (disks (store_content g a))
-    → ((z : VolumeTable) (image : ℕ → List ℕ) → g.leaves b z image → IsChoiceOf (stored g b) z image) → (k : Known) (ok : Type 0) → (ok → ⊥)
+pub raise_failed : {S : Type 0} {g : Ghosts S} {a b : S} {ls : List Log} → Stays g a b → LeavesStill (g.site a) (tab g a) (g.area b) (StoreLeaves g a) (disks (store_content g a)) ls
+    → ((z : VolumeTable) (image : ℕ → List ℕ) → g.leaves b z image → IsChoiceOf (stored g b) z image) → (k : Known) → k.logs ≡ ls → (ok : Type 0) → (ok → ⊥)
     → HasDoneFrom (g.site a) (tab g b) (g.area b) k (StoreLeaves g a) (StoreLeaves g b) ok (disks (store_content g a)) (disks (store_content g a))
-raise_failed {g = g} {a} {b} stays leaves choice k ok never = stopped_at g k ok (disks (store_content g a)) never stays.site stays.table (record { kept = leaves.kept; shown = leaves.shown }) choice
+raise_failed {g = g} {a} {b} stays leaves choice k same ok never = stopped_at g k ok (disks (store_content g a)) never stays.site stays.table (record { kept = leaves.kept; shown = leaves.shown })
+    (λ image left. subst (IsLogged (content_in (g.site a) (tab g a) image)) (sym same) (leaves.logged image left)) choice
 
-pub raise_still : {S : Type 0} {g : Ghosts S} {a b : S} → Stays g a b → LeavesStill (g.site a) (tab g a) (g.area b) (StoreLeaves g a) (disks (store_content g a))
+pub raise_still : {S : Type 0} {g : Ghosts S} {a b : S} {ls : List Log} → Stays g a b → LeavesStill (g.site a) (tab g a) (g.area b) (StoreLeaves g a) (disks (store_content g a)) ls
     → ((z : VolumeTable) (image : ℕ → List ℕ) → g.leaves b z image → IsChoiceOf (stored g b) z image)
     → (z : VolumeTable) (image : ℕ → List ℕ) → g.leaves b z image → MayShow (g.site a) (StoreLeaves g a) (disks (content_in (g.site a) z image))
 raise_still {g = g} {a} {b} stays leaves choice z image l =

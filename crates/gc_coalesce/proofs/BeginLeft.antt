@@ -8,7 +8,7 @@ use Rattle.std.proofs.lemmas.Bool.{true≢false}
 use Rattle.std.proofs.lemmas.Option.{same_Some}
 use Rattle.common_laws.specs.Lists.{numbers, ◌>>=◌}
 use Rattle.sm_base.specs.declared.names.Name.{Name}
-use Rattle.sm_base.specs.declared.names.Name.TheVariants.{Vhd, Raw, Relink}
+use Rattle.sm_base.specs.declared.names.Name.TheVariants.{Vhd, Raw, Cbt, Relink}
 use Rattle.sm_machine.specs.Operations as op
 use Rattle.sm_disk.specs.Held.{Held, Keeps, reads}
 use Rattle.sm_disk.proofs.HeldLaws.{Keeps-then}
@@ -40,6 +40,8 @@ use Rattle.sm_ready.proofs.AlikeLaws.{disks_alike}
 use Rattle.sm_ready.proofs.CommitLaws.{still}
 use Rattle.sm_ready.proofs.KeptLaws.{entry_relink}
 use Rattle.sm_ready.proofs.LeftLaws.{IsLeft, extent_some, image_still, law_left_now, left_in, left_now, now_sector}
+use Rattle.sm_ready.proofs.LogLaws.{holds_keeps, holds_ready, logged_left}
+use Rattle.sm_ready.proofs.LogRows.{image_apart}
 use Rattle.sm_ready.proofs.RestLaws.{keeps_rest}
 use Rattle.sm_ready.proofs.ShapeLaws.{plainly_stands, seen_row}
 use Rattle.sm_ready.proofs.StopLaws.{image_by_sectors, name_or_not}
@@ -134,8 +136,13 @@ module _ {s : Site} {t : VolumeTable} {m : Known} {old new : Held} {u : List ℕ
 
   -- ---- of all of them
 
-  pub leaves_still : (before : Leaving) → ((other : Sectors) → IsLeft s old other → before t other) → LeavesStill s t new before (disks (content_now s t old))
-  leaves_still before might = record { kept = λ image left. kept_now image left; shown = λ image left. still_now image left before might; still = λ image left. shows_now image left before might }
+  pub leaves_still : (before : Leaving) → ((other : Sectors) → IsLeft s old other → before t other) → LeavesStill s t new before (disks (content_now s t old)) m.logs
+  leaves_still before might = record {
+    kept = λ image left. kept_now image left;
+    shown = λ image left. still_now image left before might;
+    still = λ image left. shows_now image left before might;
+    logged = logged_left (holds_keeps (holds_ready s t old m o h.ready) new (λ w. kept_beside (Cbt w) (λ is. image_apart (Vhd u) refl w (is ∙ h.to_raise.named)))) o.table;
+  }
 
   pub disks_now : disks (content_now s t new) ≡ disks (content_now s t old)
   disks_now = read_disks (reads new) (left_now s new) refl

@@ -29,6 +29,8 @@ use Rattle.sm_ready.specs.declared.memory.Memory.{Memory}
 use Rattle.sm_ready.proofs.ChainLaws.{tab}
 use Rattle.sm_ready.proofs.CommitLaws.{ready_safe}
 use Rattle.sm_ready.proofs.KeptLaws.{vhd_named}
+use Rattle.sm_ready.proofs.LogLaws.{logged_left}
+use Rattle.sm_ready.proofs.LogStores.{logs_told}
 use Rattle.sm_ready.proofs.Orders.{In-tree_row}
 use Rattle.sm_ready.proofs.RepairLaws.{ready_synced}
 use Rattle.sm_ready.proofs.RestLaws.{keeps_rest}
@@ -116,13 +118,14 @@ module _ (s : Site) (t : VolumeTable) (m : Known) (v p : Name) (o : IsOrderly s 
         (sym (vhd_parent (λ same. differs (same ∙ sym is)))) (is ∙ child_sectors ∙ sym (size_is (shape_in s t m) v p o.well_formed h))
 
 -- where nothing is written, a stop leaves the disks from before, and memory is ready once nothing is pending
-pub safe_ready : {S : Type 0} {g : Ghosts S} {a : S} {m : Memory} → IsTold g a m → LeavesStill (g.site a) (tab g a) (g.area a) (StoreLeaves g a) (disks (store_content g a)) × IsReady (g.site a) (tab g a) (at_rest (reads (g.area a))) (known m)
+pub safe_ready : {S : Type 0} {g : Ghosts S} {a : S} {m : Memory} → IsTold g a m → LeavesStill (g.site a) (tab g a) (g.area a) (StoreLeaves g a) (disks (store_content g a)) (known m).logs × IsReady (g.site a) (tab g a) (at_rest (reads (g.area a))) (known m)
 safe_ready {g = g} {a} {m} i =
     let safe = ready_safe (g.site a) (tab g a) (g.area a) (known m) (StoreLeaves g a) i.orderly i.ready (λ image is. inr (i.told, i.usable, is)) in (
       record {
         kept = safe.kept;
         shown = safe.shown;
         still = λ image left. record { table = tab g a; image = image; left = inr (i.told, i.usable, record { table_is = refl; sectors = left }); shown = refl };
+        logged = logged_left (logs_told i) i.orderly.table;
       },
       ready_synced (g.site a) (tab g a) (g.area a) (at_rest (reads (g.area a))) (known m) i.ready (keeps_rest (g.area a)) (λ p. refl),
     )
@@ -143,7 +146,7 @@ module _ {S : Type 0} (g : Ghosts S) (a b : S) (m : Memory) (u : List ℕ) (size
     raises = record { to_raise = h; ready = i.ready; keeps = works.elsewhere i.told; grows = grows g a b m size r h.orderly h.there works u h.named i changes }
 
     -- whatever a stop leaves shows the disks from before
-    pub raise_safe : LeavesStill (g.site a) (tab g a) (g.area b) (StoreLeaves g a) (disks (store_content g a))
+    pub raise_safe : LeavesStill (g.site a) (tab g a) (g.area b) (StoreLeaves g a) (disks (store_content g a)) (known m).logs
     raise_safe = leaves_still raises (StoreLeaves g a) (λ other is. inr (i.told, i.usable, record { table_is = refl; sectors = is }))
 
     -- and so does a read, and memory is ready with the new size once nothing is pending

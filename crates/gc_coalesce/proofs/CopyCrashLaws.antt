@@ -1,5 +1,5 @@
 -- A store while a block is copied: whatever a stop leaves is kept, shows the disks from before, and has the parent masked by the child.
-use Rattle.std.proofs.Common.{◌≡◌, inl, inr, ⊎_elim, ℕ, not, ◌&&◌, false, List, map, Option, Some, None, refl, sym, ap, ◌∙◌, subst, subst₂}
+use Rattle.std.proofs.Common.{◌≡◌, inl, inr, ⊎_elim, ℕ, not, ◌&&◌, true, false, List, map, Option, Some, None, refl, sym, ap, ◌∙◌, subst, subst₂}
 use Rattle.std.proofs.Math.Logic.{∥∥₁_elim}
 use Rattle.std.proofs.Props.{props}
 use Rattle.std.proofs.lemmas.Option.{same_Some}
@@ -22,12 +22,14 @@ use Rattle.sm_machine.specs.Disks.{Disk}
 use Rattle.sm_machine.specs.Runs.{HasSector, face}
 use Rattle.sm_machine.specs.Shapes.{attached_as, image_uuid, is_rw}
 use Rattle.sm_machine.specs.Steps.{disks_next}
+use Rattle.sm_machine.specs.WellFormed.{is_image_name}
 use Rattle.sm_machine.specs.declared.commands.Command.TheVariants.{Gc}
 use Rattle.sm_machine.proofs.Chains.{find_image-in}
 use Rattle.sm_run.specs.Between.{IsBetween}
 use Rattle.sm_standing.specs.Contents.{Content}
 use Rattle.sm_standing.specs.Images.{Image, image_of}
 use Rattle.sm_standing.specs.Keeping.{IsKept}
+use Rattle.sm_standing.specs.Logs.{IsLogged}
 use Rattle.sm_standing.specs.Standing.{disks}
 use Rattle.sm_ready.specs.Done.{HasDone}
 use Rattle.sm_ready.specs.Does.{store_shape}
@@ -38,8 +40,11 @@ use Rattle.sm_ready.specs.declared.memory.Memory.{Memory}
 use Rattle.sm_ready.proofs.ChainLaws.{might_show, only_crash, tab}
 use Rattle.sm_ready.proofs.LeaveLaws.{left_choice}
 use Rattle.sm_ready.proofs.LeftLaws.{IsLeft, image_still, left_in}
+use Rattle.sm_ready.proofs.LogRows.{name_apart}
+use Rattle.sm_ready.proofs.Orders.{named_row}
 use Rattle.sm_ready.proofs.SyncLaws.{IsSynced, behind_content, behind_sync, synced_failed}
 use Rattle.sm_ready.proofs.TakenLaws.{IsTold}
+use Rattle.sm_space.proofs.SyncedLaws.{logged_work}
 use Rattle.gc_coalesce.specs.Blocks.{Copies, IsMaskedBy}
 use Rattle.gc_coalesce.specs.Copying.{IsCopyOf, IsMasked, IsParentMasked, MayCopy}
 use Rattle.gc_coalesce.proofs.CopyKinds.{masked_of}
@@ -155,10 +160,20 @@ module _ {S : Type 0} (g : Ghosts S) {b d : S} {m : Memory} {v p : Name} {cursor
       masked_op m.operation v p _ _ (h.kind, cursor, h.dirty, h.op)
       (subst₂ (λ c z. IsParentMasked c (content_in z w image) v p) (behind_content first y) y.site (masked_at w image x))
 
+  pub parent_image : is_image_name p ≡ true
+  parent_image = subst (λ n. is_image_name n ≡ true) (named h) (named_row s t (known m) q h.orderly (there h))
+
+  -- and it has the logs of memory
+  logged_at : (n : Known) → n.logs ≡ (known m).logs → (w : VolumeTable) (image : ℕ → List ℕ) → IsChoiceOf (stored g d) w image → IsLogged (content_in (g.site b) w image) n.logs
+  logged_at = logged_work told copies.works (λ u is. name_apart p parent_image u (is ∙ named h))
+
   module _ (later : (w : VolumeTable) (image : ℕ → List ℕ) → g.leaves d w image → IsChoiceOf (stored g d) w image) where
     -- the copy failed
-    pub copy_failed : (n : Known) (ok : Type 0) → (ok → ⊥) → HasDone (g.site b) (tab g b) (tab g d) (g.area b) (g.area d) n (StoreLeaves g b) (StoreLeaves g d) ok (disks (store_content g b))
-    copy_failed n ok never = only_crash never (λ w image l. crash_at w image (left_choice g.told (g.site d) (tab g d) (g.area d) (g.leaves d) (g.failed d) later w image l))
+    pub copy_failed : (n : Known) → n.logs ≡ (known m).logs → (ok : Type 0) → (ok → ⊥) → HasDone (g.site b) (tab g b) (tab g d) (g.area b) (g.area d) n (StoreLeaves g b) (StoreLeaves g d) ok (disks (store_content g b))
+    copy_failed n same ok never = only_crash never (λ w image l. crash_at w image (choice w image l)) (λ w image l. logged_at n same w image (choice w image l))
+      where
+        choice : (w : VolumeTable) (image : ℕ → List ℕ) → StoreLeaves g d w image → IsChoiceOf (stored g d) w image
+        choice w image l = left_choice g.told (g.site d) (tab g d) (g.area d) (g.leaves d) (g.failed d) later w image l
 
     -- at a sync behind it
     module _ (e : S) (y : IsSynced g d e) where
@@ -166,8 +181,11 @@ module _ {S : Type 0} (g : Ghosts S) {b d : S} {m : Memory} {v p : Name} {cursor
           → IsKept (content_in (g.site b) w image) × IsBetween (MayShow (g.site b) (StoreLeaves g b)) (disks (store_content g b)) (disks (store_content g b)) (disks (content_in (g.site b) w image))
       crash_synced w image l = crash_at w image (synced_choice g y later w image l)
 
-      pub sync_failed : (n : Known) (ok : Type 0) → (ok → ⊥) → HasDone (g.site b) (tab g b) (tab g e) (g.area b) (g.area e) n (StoreLeaves g b) (StoreLeaves g e) ok (disks (store_content g b))
-      sync_failed n ok never = only_crash never crash_synced
+      pub logged_synced : (n : Known) → n.logs ≡ (known m).logs → (w : VolumeTable) (image : ℕ → List ℕ) → StoreLeaves g e w image → IsLogged (content_in (g.site b) w image) n.logs
+      logged_synced n same w image l = logged_at n same w image (synced_choice g y later w image l)
+
+      pub sync_failed : (n : Known) → n.logs ≡ (known m).logs → (ok : Type 0) → (ok → ⊥) → HasDone (g.site b) (tab g b) (tab g e) (g.area b) (g.area e) n (StoreLeaves g b) (StoreLeaves g e) ok (disks (store_content g b))
+      sync_failed n same ok never = only_crash never crash_synced (logged_synced n same)
 
 -- ---- from before the first sync
 
@@ -179,6 +197,6 @@ from_before {g = g} {a} {b} {e} {m} told y n ok done =
     (subst (λ (ds : List Disk). HasDone (g.site b) (tab g b) (tab g e) (g.area b) (g.area e) n (StoreLeaves g b) (StoreLeaves g e) ok ds)
     (ap disks (behind_content told y) ∙ sym (disks_gc (disks (store_content g a)) (store_shape g a m))) done)
 
-pub never_done : {S : Type 0} {g : Ghosts S} {a b : S} {m : Memory} → IsTold g a m → IsSynced g a b → (n : Known) (ok : Type 0) → (ok → ⊥)
+pub never_done : {S : Type 0} {g : Ghosts S} {a b : S} {m : Memory} → IsTold g a m → IsSynced g a b → (n : Known) → n.logs ≡ (known m).logs → (ok : Type 0) → (ok → ⊥)
     → HasDone (g.site a) (tab g a) (tab g b) (g.area a) (g.area b) n (StoreLeaves g a) (StoreLeaves g b) ok (disks_next (disks (store_content g a)) (store_shape g a m) Gc)
-never_done {g = g} {a} {b} {m} told y n ok never = synced_failed told y n ok (disks_next (disks (store_content g a)) (store_shape g a m) Gc) never
+never_done {g = g} {a} {b} {m} told y n same ok never = synced_failed told y n ok (disks_next (disks (store_content g a)) (store_shape g a m) Gc) never same

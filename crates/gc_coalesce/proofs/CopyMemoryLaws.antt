@@ -308,6 +308,10 @@ module _ {s : Site} {t : VolumeTable} {m : Known} {v p : Name} {cursor b : ℕ} 
           few = o.few;
           new_named = o.new_named;
           images = λ n is. o.images n is ∙ sym (face_replaced s t m o q (with_image d q) (there h) name refl refl n);
+          logs = o.logs;
+          few_logs = o.few_logs;
+          logs_in_order = o.logs_in_order;
+          log_room = o.log_room;
           places = o.places;
           entries = o.entries ∙ ap entry_of h.op ∙ its_entry h.kind v p cursor h.dirty ∙ sym (ap entry_of goes_on ∙ its_entry h.kind v p h.next.cursor_then h.next.dirty_then);
           stands = λ x j. ⊎_elim (λ old. o.stands x old.0) (λ new. subst (λ (y : TreeRow). StandsIn s.geometry (y.extents * s.geometry.extent) y.image) (sym new) stands) (rows_behind x j);

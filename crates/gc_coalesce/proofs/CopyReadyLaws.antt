@@ -8,7 +8,7 @@ use Rattle.std.proofs.lemmas.Option.{none-some, same_Some, slice_get-get_or}
 use Rattle.common_laws.specs.Lists.{In, when}
 use Rattle.common_laws.proofs.Lists.{In-map_at}
 use Rattle.sm_base.specs.declared.names.Name.{Name}
-use Rattle.sm_base.specs.declared.names.Name.TheVariants.{Mgt, Vhd}
+use Rattle.sm_base.specs.declared.names.Name.TheVariants.{Mgt, Vhd, Cbt}
 use Rattle.sm_disk.specs.Held.{Held, IsSettled, Keeps, reads}
 use Rattle.sm_disk.proofs.HeldLaws.{Keeps-then}
 use Rattle.vg_meta.specs.Tables.{VolumeTable, rows, extents_of}
@@ -49,6 +49,9 @@ use Rattle.sm_ready.proofs.ChainLaws.{tab}
 use Rattle.sm_ready.proofs.HeldLaws.{held_copied}
 use Rattle.sm_ready.proofs.KeptLaws.{law_kept, vhd_named}
 use Rattle.sm_ready.proofs.LeftLaws.{IsLeft, left_in, left_now, now_sector, ready_places}
+use Rattle.sm_ready.proofs.LogLaws.{holds_keeps}
+use Rattle.sm_ready.proofs.LogRows.{name_apart}
+use Rattle.sm_ready.proofs.LogStores.{logs_told}
 use Rattle.sm_ready.proofs.Orders.{HasHead, geometry_of, vhd_row}
 use Rattle.sm_ready.proofs.RepairLaws.{all_quiet}
 use Rattle.sm_ready.proofs.RestLaws.{agrees_keeps, steady_keeps}
@@ -60,7 +63,7 @@ use Rattle.vhd_image.specs.Written.{MayHaveSlot, with_slot}
 use Rattle.gc_coalesce.specs.Blocks.{Copies, HasCopied, IsMaskedBy, own_held}
 use Rattle.gc_coalesce.specs.Copying.{dirty_of}
 use Rattle.gc_coalesce.proofs.CopyBlockLaws.{add_one, grown_count, own_grown}
-use Rattle.gc_coalesce.proofs.CopyCrashLaws.{crash_synced, keeps_parent, left_copied, masked_parent}
+use Rattle.gc_coalesce.proofs.CopyCrashLaws.{crash_synced, keeps_parent, left_copied, logged_synced, masked_parent, parent_image}
 use Rattle.gc_coalesce.proofs.CopyKinds.{below_in, below_of}
 use Rattle.gc_coalesce.proofs.CopyLeftLaws.{child_now, kept_other, not_records, parent_now}
 use Rattle.gc_coalesce.proofs.CopyMemoryLaws.{behind, may_name, orderly_behind, rows_behind, with_image}
@@ -252,6 +255,8 @@ module _ {S : Type 0} (g : Ghosts S) {b d : S} (e : S) (m : Memory) {v p : Name}
       records = agrees_keeps (records_held s t (g.area b)) (records_held s t (g.area e)) m.records
           (kept_all Mgt (not_records h (g.area b) (g.area d) told.ready settled (keeps_parent g h new copies told settled))) told.ready.records;
       recorded = all_quiet s t (g.area e) last Mgt;
+      logs = (holds_keeps (logs_told told) (g.area e) (λ u. kept_all (Cbt u) (name_apart p (parent_image g h new copies told settled) u))).logs;
+      logged = λ u. all_quiet s t (g.area e) last (Cbt u);
     }
 
     same_reads : reads (g.area e) ≡ reads (g.area d)
@@ -268,6 +273,7 @@ module _ {S : Type 0} (g : Ghosts S) {b d : S} (e : S) (m : Memory) {v p : Name}
       settled = λ _. last;
       shown = λ _. ap (λ z. disks (content_now s z (g.area e))) (y.table ∙ copies.works.stays.table) ∙ shown_new;
       crash = crash_synced g h new copies told settled later e y;
+      logged = logged_synced g h new copies told settled later e y n (ap (λ (k : Known). k.logs) is);
     }
 
     -- ---- the block has a slot

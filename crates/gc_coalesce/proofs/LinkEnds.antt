@@ -95,9 +95,9 @@ unfolding disks_next
 disks_as_was g a b m i y = ap disks (sym (behind_content i y))
 
 -- the first sync failed
-pub rest_failed : {S : Type 0} (g : Ghosts S) (a b : S) (m : Memory) → IsTold g a m → IsSynced g a b → (n : Known) (ok : Type 0) → (ok → ⊥)
+pub rest_failed : {S : Type 0} (g : Ghosts S) (a b : S) (m : Memory) → IsTold g a m → IsSynced g a b → (n : Known) → n.logs ≡ (known m).logs → (ok : Type 0) → (ok → ⊥)
     → HasDone (g.site a) (tab g a) (tab g b) (g.area a) (g.area b) n (StoreLeaves g a) (StoreLeaves g b) ok (disks_next (disks (store_content g a)) (store_shape g a m) Gc)
-rest_failed g a b m i y n ok never = synced_failed i y n ok (disks_next (disks (store_content g a)) (store_shape g a m) Gc) never
+rest_failed g a b m i y n same ok never = synced_failed i y n ok (disks_next (disks (store_content g a)) (store_shape g a m) Gc) never same
 
 module _ {S : Type 0} (g : Ghosts S) (a b d : S) (m : Memory) (child v p : Name) (r q : TreeRow) (h : IsToLinkIn g a m child v p r)
     (above : In q m.tree.rows × (row_name q ≡ p)) (usable : g.failed a ≡ false) (now : LeavesNow g)
@@ -123,17 +123,17 @@ module _ {S : Type 0} (g : Ghosts S) (a b d : S) (m : Memory) (child v p : Name)
     same = disks_as_was g a b m first (rest.synced told)
 
     -- the link was not written
-    pub relink_failed : (n : Known) (ok : Type 0) → (ok → ⊥)
+    pub relink_failed : (n : Known) → n.logs ≡ (known m).logs → (ok : Type 0) → (ok → ⊥)
         → HasDone (g.site a) (tab g a) (tab g d) (g.area a) (g.area d) n (StoreLeaves g a) (StoreLeaves g d) ok (disks_next (disks (store_content g a)) (store_shape g a m) Gc)
-    relink_failed n ok never = behind_sync first (rest.synced told) n ok after
-        (linked_failed g b d m child v p r q links above.0 above.1 works second (rest.settled told) changes later n ok after same never)
+    relink_failed n same_logs ok never = behind_sync first (rest.synced told) n ok after
+        (linked_failed g b d m child v p r q links above.0 above.1 works second (rest.settled told) changes later n same_logs ok after same never)
 
     module _ (e : S) (z : IsSynced g d e) where
       -- it was, and its sync failed
-      pub relink_unsettled : (n : Known) (ok : Type 0) → (ok → ⊥)
+      pub relink_unsettled : (n : Known) → n.logs ≡ (known m).logs → (ok : Type 0) → (ok → ⊥)
           → HasDone (g.site a) (tab g a) (tab g e) (g.area a) (g.area e) n (StoreLeaves g a) (StoreLeaves g e) ok (disks_next (disks (store_content g a)) (store_shape g a m) Gc)
-      relink_unsettled n ok never = behind_sync first (rest.synced told) n ok after
-          (linked_unsettled g b d m child v p r q links above.0 above.1 works second (rest.settled told) changes later e z n ok after same never)
+      relink_unsettled n same_logs ok never = behind_sync first (rest.synced told) n ok after
+          (linked_unsettled g b d m child v p r q links above.0 above.1 works second (rest.settled told) changes later e z n same_logs ok after same never)
 
       -- it was, and all lasts
       pub relink_done : Stays g d e → IsSettled (g.area e) → (new : Body) → new ≡ relinked q.image r.image

@@ -374,6 +374,10 @@ module _ {s : Site} {t : VolumeTable} {m : Known} {child v p : Name} {r : TreeRo
             few = o.few;
             new_named = o.new_named;
             images = λ n is. o.images n is ∙ sym (face_replaced s t m o r next h.there next_named refl refl n);
+            logs = o.logs;
+            few_logs = o.few_logs;
+            logs_in_order = o.logs_in_order;
+            log_room = o.log_room;
             places = o.places;
             entries = o.entries;
             stands = λ x i. ⊎_elim (λ old. o.stands x old.0) (λ new. subst (λ (y : TreeRow). StandsIn s.geometry (y.extents * s.geometry.extent) y.image) (sym new)

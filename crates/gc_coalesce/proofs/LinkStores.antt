@@ -6,7 +6,7 @@ use Rattle.std.proofs.lemmas.List.{length-map}
 use Rattle.std.proofs.lemmas.Option.{same_Some}
 use Rattle.common_laws.specs.Lists.{In}
 use Rattle.sm_base.specs.declared.names.Name.{Name}
-use Rattle.sm_base.specs.declared.names.Name.TheVariants.{Mgt, Vhd}
+use Rattle.sm_base.specs.declared.names.Name.TheVariants.{Mgt, Vhd, Cbt}
 use Rattle.sm_disk.specs.Held.{Allows, IsSettled, Keeps, reads}
 use Rattle.sm_disk.proofs.HeldLaws.{Keeps-then}
 use Rattle.vg_meta.specs.Tables.{VolumeTable, extents_of, rows}
@@ -34,6 +34,7 @@ use Rattle.sm_refs.specs.Attached.{Attached}
 use Rattle.sm_run.specs.Between.{IsBetween}
 use Rattle.sm_standing.specs.Images.{image_of}
 use Rattle.sm_standing.specs.Keeping.{IsKept}
+use Rattle.sm_standing.specs.Logs.{IsLogged}
 use Rattle.sm_standing.specs.Standing.{disks}
 use Rattle.sm_ready.specs.Done.{HasDone}
 use Rattle.sm_ready.specs.Frames.{HasTrueImages}
@@ -47,6 +48,9 @@ use Rattle.sm_ready.proofs.CommitLaws.{already}
 use Rattle.sm_ready.proofs.FrameLaws.{KeepsVolume, not_mgt, true_turned, volume_stays, volume_then, volume_works}
 use Rattle.sm_ready.proofs.LeaveLaws.{left_choice}
 use Rattle.sm_ready.proofs.LeftLaws.{IsLeft, IsVhdIn, extent_some, left_now, now_sector, size_there, vhd_in}
+use Rattle.sm_ready.proofs.LogLaws.{holds_keeps}
+use Rattle.sm_ready.proofs.LogRows.{image_apart}
+use Rattle.sm_ready.proofs.LogStores.{logs_told}
 use Rattle.sm_ready.proofs.OperationLaws.{WorksAt, below_alike}
 use Rattle.sm_ready.proofs.Orders.{In-tree_row, named_row}
 use Rattle.sm_ready.proofs.PutBackLaws.{put_back}
@@ -57,6 +61,7 @@ use Rattle.sm_ready.proofs.StopLaws.{image_by_sectors}
 use Rattle.sm_ready.proofs.SyncLaws.{IsSynced}
 use Rattle.sm_ready.proofs.TakenLaws.{IsTold}
 use Rattle.sm_ready.proofs.TruthLaws.{row_sectors}
+use Rattle.sm_space.proofs.SyncedLaws.{logged_work}
 use Rattle.gc_coalesce.proofs.LinkLaws.{IsToLink, child_named, found, linked_name, linked_row, not_out, not_parent, own_vhd, rows_linked}
 use Rattle.gc_coalesce.proofs.LinkLeft.{Links, LinksIn, disks_left, kept_left}
 
@@ -201,12 +206,18 @@ module _ {S : Type 0} (g : Ghosts S) (b d : S) (m : Memory) (child v p : Name) (
           inr (already (MayShow s (StoreLeaves g b)) ds (disks (content_in s t image)) (disks_left s t (known m) (g.area b) (g.area d) child v p r q u y.row linking image left ∙ sym same)),
         )
 
+    log_apart : (x : List ℕ) → Cbt x ≢ row_name r
+    log_apart x is = image_apart (Vhd u) refl x (is ∙ named)
+
+    logged_at : (n : Known) → n.logs ≡ (known m).logs → (w : VolumeTable) (image : ℕ → List ℕ) → IsChoiceOf (stored g d) w image → IsLogged (content_in (g.site b) w image) n.logs
+    logged_at = logged_work i works log_apart
+
     left_written : (w : VolumeTable) (image : ℕ → List ℕ) → StoreLeaves g d w image → IsChoiceOf (stored g d) w image
     left_written w image l = left_choice g.told (g.site d) (tab g d) (g.area d) (g.leaves d) (g.failed d) later w image l
 
     -- the sector was not written
-    pub linked_failed : (n : Known) (ok : Type 0) (ds : List Disk) → ds ≡ disks (store_content g b) → (ok → ⊥) → HasDone s t (tab g d) (g.area b) (g.area d) n (StoreLeaves g b) (StoreLeaves g d) ok ds
-    linked_failed n ok ds same never = only_crash never (λ w image l. crash_at ds same w image (left_written w image l))
+    pub linked_failed : (n : Known) → n.logs ≡ (known m).logs → (ok : Type 0) (ds : List Disk) → ds ≡ disks (store_content g b) → (ok → ⊥) → HasDone s t (tab g d) (g.area b) (g.area d) n (StoreLeaves g b) (StoreLeaves g d) ok ds
+    linked_failed n same_logs ok ds same never = only_crash never (λ w image l. crash_at ds same w image (left_written w image l)) (λ w image l. logged_at n same_logs w image (left_written w image l))
 
     module _ (e : S) (z : IsSynced g d e) where
       left_end : (w : VolumeTable) (image : ℕ → List ℕ) → StoreLeaves g e w image → IsChoiceOf (stored g d) w image
@@ -219,9 +230,9 @@ module _ {S : Type 0} (g : Ghosts S) (b d : S) (m : Memory) (child v p : Name) (
       end_crash ds same w image l = crash_at ds same w image (left_end w image l)
 
       -- the sync failed
-      pub linked_unsettled : (n : Known) (ok : Type 0) (ds : List Disk) → ds ≡ disks (store_content g b) → (ok → ⊥)
+      pub linked_unsettled : (n : Known) → n.logs ≡ (known m).logs → (ok : Type 0) (ds : List Disk) → ds ≡ disks (store_content g b) → (ok → ⊥)
           → HasDone s t (tab g e) (g.area b) (g.area e) n (StoreLeaves g b) (StoreLeaves g e) ok ds
-      linked_unsettled n ok ds same never = only_crash never (end_crash ds same)
+      linked_unsettled n same_logs ok ds same never = only_crash never (end_crash ds same) (λ w image l. logged_at n same_logs w image (left_end w image l))
 
       -- all lasts
       module _ (settled : IsSettled (g.area e)) (steady : IsSteady s.geometry (r.extents * s.geometry.extent) (volume_of s t (g.area e) (row_name r)) next.image) where
@@ -248,6 +259,8 @@ module _ {S : Type 0} (g : Ghosts S) (b d : S) (m : Memory) (child v p : Name) (
           };
           records = agrees_keeps (records_held s t (g.area b)) (records_held s t (g.area e)) m.records (kept Mgt record_apart) i.ready.records;
           recorded = all_quiet s t (g.area e) settled Mgt;
+          logs = (holds_keeps (logs_told i) (g.area e) (λ x. kept (Cbt x) (log_apart x))).logs;
+          logged = λ x. all_quiet s t (g.area e) settled (Cbt x);
         }
           where
             record_apart : Mgt ≢ row_name r
@@ -265,4 +278,5 @@ module _ {S : Type 0} (g : Ghosts S) (b d : S) (m : Memory) (child v p : Name) (
           shown = λ _. ap (λ x. disks (content_now s x (g.area e))) (z.table ∙ works.stays.table)
               ∙ disks_left s t (known m) (g.area b) (g.area d) child v p r q u y.row linking (reads (g.area e)) at_end ∙ sym same;
           crash = end_crash ds same;
+          logged = λ w image l. logged_at n (ap (λ (k : Known). k.logs) is) w image (left_end w image l);
         }

@@ -245,4 +245,4 @@ module _ {S : Type 0} (g : Ghosts S) (a : S) (m : Memory) {x : Name} (h : IsToRe
   pub failed_end : IsTold g a m → {b : S} (n : Memory) (ok : Type 0) → (ok → ⊥) → FailsToCommit g a b
       → ((v : VolumeTable) (image : ℕ → List ℕ) → g.leaves b v image → IsEitherOf (stored g a) (Remove x) v image) → StoreDoes g Gc a m b n ok
   unfolding disks_next
-  failed_end k {b} n ok never fails stop = only_crash never (done_less k b ok (commit_failed g (Remove x) ok never refl refl k.told fails stop)).crash
+  failed_end k {b} n ok never fails stop = let done = done_less k b ok (commit_failed g (Remove x) ok never refl refl k.told fails stop) in only_crash never done.crash done.logged

@@ -7,6 +7,7 @@ use Rattle.sm_machine.specs.Operations as op
 use Rattle.sm_base.specs.declared.operations.Plan.{Plan}
 use Rattle.sm_base.specs.declared.operations.Plan.TheVariants as plan
 use Rattle.sm_disk.specs.Held.{Allows, Held}
+use Rattle.sm_log.specs.Logs.{Log}
 use Rattle.vg_meta.specs.Tables.{VolumeTable, extents_of, rows}
 use Rattle.vg_extents.specs.Fits.{AreLeastFree}
 use Rattle.vg_volumes.specs.Sites.{Site, area_size}
@@ -17,6 +18,7 @@ use Rattle.sm_machine.specs.Disks.{Disk}
 use Rattle.sm_machine.specs.Shapes.{ImageRow, Shape, attached_as, image_uuid, is_rw, is_vhd, on_image, risen, thick_in, thin_in, top}
 use Rattle.sm_run.specs.Between.{IsStill}
 use Rattle.sm_standing.specs.Keeping.{IsKept}
+use Rattle.sm_standing.specs.Logs.{IsLogged}
 use Rattle.sm_standing.specs.Standing.{disks}
 use Rattle.gc_coalesce.specs.Copying.{copy_of, is_hidden}
 use Rattle.gc_coalesce.specs.declared.kinds.Kind.{Kind}
@@ -89,9 +91,10 @@ pub record IsWidened (count : ℕ) (t : VolumeTable) (n : Name) (to : ℕ) (next
   pub extents : extents_of (rows next n) ≡ extents_of (rows t n) ++ more
   pub others : (x : Name) → x ≢ n → extents_of (rows next x) ≡ extents_of (rows t x)
 
--- whatever a stop leaves of this area, while the table stands, is kept and shows these disks, all sectors at once of an image that might
--- be left before
-pub record LeavesStill (s : Site) (t : VolumeTable) (area : Held) (before : Leaving) (ds : List Disk) : Type 0 where
+-- whatever a stop leaves of this area, while the table stands, is kept, has these logs and shows these disks, all sectors at once of an
+-- image that might be left before
+pub record LeavesStill (s : Site) (t : VolumeTable) (area : Held) (before : Leaving) (ds : List Disk) (logs : List Log) : Type 0 where
   pub kept : (image : ℕ → List ℕ) → Allows (area_size s) area image → IsKept (content_in s t image)
   pub shown : (image : ℕ → List ℕ) → Allows (area_size s) area image → IsStill (MayShow s before) ds (disks (content_in s t image))
   pub still : (image : ℕ → List ℕ) → Allows (area_size s) area image → MayShow s before (disks (content_in s t image))
+  pub logged : (image : ℕ → List ℕ) → Allows (area_size s) area image → IsLogged (content_in s t image) logs

@@ -38,8 +38,8 @@ use std::alloc::Global;
 use vg_volumes::Store;
 use vhd_chain::Tree;
 
-/// The most rows that a table may come to have: those of 500 images, of the volume of records, and of 4 journal entries.
-const MOST_ROWS: usize = 505;
+/// The most rows that a table may come to have: those of 500 images, of 500 logs, of the volume of records, and of 4 journal entries.
+const MOST_ROWS: usize = 1005;
 
 /// The size of an image, in sectors.
 fn size_of(tree: &Tree, name: &Name) -> u64
@@ -66,7 +66,7 @@ fn make_room<S: Store>(store: &mut S) -> Result<(), NoMemory>
 }
 
 /// Gives the parent's image the size of its only child, where it is smaller. Nothing is synced: whatever a stop leaves shows the
-/// disks from before.
+/// disks from before, and has the logs of memory.
 fn raise<S: Store>(
     store: &mut S,
     memory: &mut Memory,
@@ -81,7 +81,7 @@ fn raise<S: Store>(
     ensures session_still { OnOk result (IsBetweenSteps S.Store store.new memory.new) }
     ensures shape { OnOk result (store_shape S.Store store.new memory.new ≡ raised child.now parent.now (store_shape S.Store store.old memory.old)) }
     ensures safe { S.told → IsReadyStore S.Store store.old memory.old
-        → LeavesStill (S.site store.old) (table_alone (S.table store.old)) (S.area store.new) (StoreLeaves S.Store store.old) (disks (store_content S.Store store.old)) }
+        → LeavesStill (S.site store.old) (table_alone (S.table store.old)) (S.area store.new) (StoreLeaves S.Store store.old) (disks (store_content S.Store store.old)) (known memory.new).logs }
     ensures ready { OnOk result (S.told → IsReadyStore S.Store store.old memory.old
         → IsReady (S.site store.old) (table_alone (S.table store.old)) (at_rest (reads (S.area store.new))) (known memory.new)
         × (disks (content_now (S.site store.old) (table_alone (S.table store.old)) (S.area store.new)) ≡ disks (store_content S.Store store.old))) }

@@ -8,7 +8,7 @@ use Rattle.std.specs.Map.{lookup}
 use Rattle.common_laws.specs.Lists.{Distinct, In, first_some, given}
 use Rattle.common_laws.proofs.Lists.{In-map_at}
 use Rattle.sm_base.specs.declared.names.Name.{Name}
-use Rattle.sm_base.specs.declared.names.Name.TheVariants.{Mgt, Old, Vhd}
+use Rattle.sm_base.specs.declared.names.Name.TheVariants.{Mgt, Cbt, Old, Vhd}
 use Rattle.sm_base.specs.Kinds.{is_entry}
 use Rattle.sm_base.specs.declared.sizes.Geometry.{Geometry}
 use Rattle.sm_base.proofs.KindLaws.{image-no_entry}
@@ -38,10 +38,11 @@ use Rattle.sm_mgt.specs.Places.{Agrees, records_held}
 use Rattle.sm_record.specs.declared.records.Record.{Record}
 use Rattle.sm_standing.proofs.DisksShown.{row_of-In}
 use Rattle.sm_ready.specs.Done.{at_rest}
-use Rattle.sm_ready.specs.Known.{Known, machine_row, shape_in, tree_face}
+use Rattle.sm_ready.specs.Known.{Known, machine_row, row_face, shape_in, tree_face}
 use Rattle.sm_ready.specs.Orderly.{IsOrderly, IsRoomy}
 use Rattle.sm_ready.specs.Ready.{IsReady, IsTidy}
 use Rattle.sm_ready.proofs.CommitLaws.{volume_rested}
+use Rattle.sm_ready.proofs.LogLaws.{holds_commit, holds_ready}
 use Rattle.sm_ready.proofs.NewLaws.{well_target}
 use Rattle.sm_ready.proofs.OwnLaws.{step_shape}
 use Rattle.sm_ready.proofs.Orders.{In-tree_row, named_row}
@@ -53,7 +54,7 @@ use Rattle.gc_leaf.proofs.SwapMemory.{folded, folded_name, images_alike, images_
 use Rattle.gc_leaf.proofs.SwapPair.{leaf_is, parent_is, parent_vol, u, v}
 use Rattle.gc_leaf.proofs.SwapSteps.{IsToSwap, free_of, only_of}
 use Rattle.gc_leaf.proofs.SwapUses.{live_gone, live_uses, swap_uses}
-use Rattle.gc_leaf.proofs.SwapTables.{shown_row, stage_5, table_then}
+use Rattle.gc_leaf.proofs.SwapTables.{logs_stay, shown_row, stage_5, table_then}
 
 -- the collector is never refused
 fits_always : (σ : Shape) → lacks_space σ Gc ≡ false
@@ -245,6 +246,10 @@ module _ {s : Site} {t : VolumeTable} {m : Known} {l p : Name} {cursor : ℕ} (h
       few = (stage_5 h).few;
       new_named = λ r i fresh. absurd (true≢false (sym fresh ∙ none_new r i));
       images = λ n is. images_alike h n is ∙ ap (λ rs. tree_face (tree_row rs n)) (sym rows_are);
+      logs = λ d. ap row_face (logs_stay h (stage_5 h) (Cbt d) refl) ∙ h.orderly.logs d;
+      few_logs = h.orderly.few_logs;
+      logs_in_order = h.orderly.logs_in_order;
+      log_room = h.orderly.log_room;
       places = h.orderly.places;
       entries = (stage_5 h).entries_are;
       stands = λ r i. ⊎_elim
@@ -287,6 +292,8 @@ module _ {s : Site} {t : VolumeTable} {m : Known} {l p : Name} {cursor : ℕ} (h
           (agrees_keeps (records_held s t old) (volume s.geometry.extent (extents_of (rows t Mgt)) end) m.places
           (Keeps-volume s.geometry.extent (extents_of (rows t Mgt)) (keeps_rest old)) ready.records);
       recorded = volume_rested s last (reads old) Mgt;
+      logs = (holds_commit (holds_ready s t old m h.orderly ready) last (λ d. logs_stay h (stage_5 h) (Cbt d) refl) (λ d. volume_rested s last (reads old) (Cbt d))).logs;
+      logged = λ d. volume_rested s last (reads old) (Cbt d);
     }
 
     pub ready_then : IsReady s last end (known_then h)
@@ -297,4 +304,6 @@ module _ {s : Site} {t : VolumeTable} {m : Known} {l p : Name} {cursor : ℕ} (h
       firm = record { images = ready_then.firm.images; quiet = λ r i _. volume_rested s last (reads old) (row_name r); below = tt };
       records = ready_then.records;
       recorded = ready_then.recorded;
+      logs = ready_as.logs;
+      logged = ready_as.logged;
     }

@@ -34,6 +34,7 @@ use Rattle.sm_standing.specs.Entries.{folding, head, is_among, is_folding, is_le
 use Rattle.sm_standing.specs.Images.{Image, image_of}
 use Rattle.sm_standing.specs.Keeping.{HoldsWell, IsHolding, IsKept}
 use Rattle.sm_standing.specs.Leaves.{IsEnding}
+use Rattle.sm_standing.specs.Logs.{IsLogged}
 use Rattle.sm_standing.specs.Opened.{applied_all, end_changes, leaf_gone, parent_changes, wanted}
 use Rattle.sm_standing.specs.Standing.{disks, stands_plainly}
 use Rattle.sm_standing.specs.Swaps.{swapped}
@@ -48,9 +49,10 @@ use Rattle.sm_ready.specs.Done.{at_rest}
 use Rattle.sm_ready.specs.Known.{Known}
 use Rattle.sm_ready.specs.Ready.{IsReady}
 use Rattle.sm_ready.specs.Stores.{Leaving, MayShow, content_in, content_now}
-use Rattle.sm_ready.proofs.CommitLaws.{IsSafe, ready_safe}
+use Rattle.sm_ready.proofs.CommitLaws.{IsSafe, ready_safe, volume_rested}
 use Rattle.sm_ready.proofs.KeptLaws.{law_kept}
 use Rattle.sm_ready.proofs.LeftLaws.{IsLeft, left_in, left_now, none_of_vhd, place_reads, ready_places}
+use Rattle.sm_ready.proofs.LogLaws.{HoldsLogs, holds_commit, holds_ready, logged_left}
 use Rattle.sm_ready.proofs.Orders.{geometry_of, whole}
 use Rattle.sm_ready.proofs.RowLaws.{found_in}
 use Rattle.sm_calls.specs.Calls.{GoesWell, ShowsBetween, commits}
@@ -62,7 +64,7 @@ use Rattle.gc_leaf.proofs.SwapNames.{folding_among, making_among}
 use Rattle.gc_leaf.proofs.SwapPair.{no_raw_leaf, no_raw_parent, none_old, parent_vol, u, v}
 use Rattle.gc_leaf.proofs.SwapSound.{swap_sound}
 use Rattle.gc_leaf.proofs.SwapSteps.{IsToSwap}
-use Rattle.gc_leaf.proofs.SwapTables.{base_was, may_1, stage_1, table_1, table_2, table_3, table_4, table_then}
+use Rattle.gc_leaf.proofs.SwapTables.{IsSwapTable, base_was, logs_stay, may_1, stage_1, stage_2, stage_3, stage_4, table_1, table_2, table_3, table_4, table_then}
 
 module _ {s : Site} {t : VolumeTable} {m : Known} {l p : Name} {cursor : ℕ} (h : IsToSwap s t m l p cursor) where
   abbrev leaf : List ℕ
@@ -303,18 +305,26 @@ module _ {s : Site} {t : VolumeTable} {m : Known} {l p : Name} {cursor : ℕ} (h
     later_shows : (y : VolumeTable) → IsEnding x y → (before : Leaving) → MayShow s before (disks a) → (image : ℕ → List ℕ) → IsLeft s (at_rest (reads old)) image → MayShow s before (disks (content_in s y image))
     later_shows y so before might image left = subst (λ (ds : List Disk). MayShow s before ds) (sym (later y so image left).1) might
 
+    -- the logs stay
+    holds : HoldsLogs s t old m.logs
+    holds = holds_ready s t old m h.orderly ready
+
+    later_logged : {y : VolumeTable} {own base gone : Option Row} {es : List Name} → IsSwapTable s.count t leaf parent y own base gone es → (image : ℕ → List ℕ) → IsLeft s (at_rest (reads old)) image
+        → IsLogged (content_in s y image) m.logs
+    later_logged {y = y} z = logged_left (holds_commit holds y (λ w. logs_stay h z (Cbt w) refl) (λ w. volume_rested s y (reads old) (Cbt w))) z.table
+
     -- whatever a stop leaves in front of the last commit is fine
     pub front_fine : (before : Leaving) → MayShow s before (disks a) → ((image : ℕ → List ℕ) → IsBefore (area_size s) t old t image → before t image)
-        → GoesWell (ShowsBetween s before (disks a) (disks a)) (λ y. y ≡ record { site = s; table = table_4 h; area = at_rest (reads old) }) (record { site = s; table = t; area = old }) (commits (front_changes leaf parent))
+        → GoesWell (ShowsBetween s before (disks a) (disks a) m.logs) (λ y. y ≡ record { site = s; table = table_4 h; area = at_rest (reads old) }) (record { site = s; table = t; area = old }) (commits (front_changes leaf parent))
     front_fine before might stays = record {
-      first = safe_fine (disks a) (ready_safe s t old m before h.orderly ready stays);
+      first = safe_fine m.logs (disks a) (ready_safe s t old m before h.orderly ready stays) (logged_left holds h.orderly.table);
       next = (
-        safe_fine (disks a) (later_safe x (ending 0 x refl) before might),
+        safe_fine m.logs (disks a) (later_safe x (ending 0 x refl) before might) (later_logged (stage_1 h)),
         (
-          safe_fine (disks a) (later_safe (table_2 h) (ending 1 (table_2 h) refl) before might),
+          safe_fine m.logs (disks a) (later_safe (table_2 h) (ending 1 (table_2 h) refl) before might) (later_logged (stage_2 h)),
           (
-            safe_fine (disks a) (later_safe (table_3 h) (ending 2 (table_3 h) refl) before might),
-            (safe_fine (disks a) (later_safe (table_4 h) (ending 3 (table_4 h) refl) before might), refl),
+            safe_fine m.logs (disks a) (later_safe (table_3 h) (ending 2 (table_3 h) refl) before might) (later_logged (stage_3 h)),
+            (safe_fine m.logs (disks a) (later_safe (table_4 h) (ending 3 (table_4 h) refl) before might) (later_logged (stage_4 h)), refl),
           ),
         ),
       );

@@ -88,16 +88,16 @@ module _ {S : Type 0} (g : Ghosts S) (a : S) (m : Memory) {l p : Name} {cursor :
       last_ready : IsReadyWith (known_with h att) was (record { site = s; table = last; area = end })
       last_ready = record { ready = ready_with h (g.area a) ready att; settled = λ q. refl; shown = disks_then h (g.area a) ready }
 
-      well : GoesWell (ShowsBetween s before was was) (IsReadyWith (known_with h att) was) (stored g a) (commits changes)
-      well = well_then (ShowsBetween s before was was) (λ x. x ≡ record { site = s; table = table_4 h; area = end }) (IsReadyWith (known_with h att) was) (stored g a)
+      well : GoesWell (ShowsBetween s before was was (known m).logs) (IsReadyWith (known_with h att) was) (stored g a) (commits changes)
+      well = well_then (ShowsBetween s before was was (known m).logs) (λ x. x ≡ record { site = s; table = table_4 h; area = end }) (IsReadyWith (known_with h att) was) (stored g a)
           (commits (front_changes (image_uuid l) (image_uuid p))) (commits (Remove (Leaf (image_uuid l) (image_uuid p)) ∷ []))
           (front_fine h (g.area a) ready before (might_show g usable told) (λ image is. inr (told, usable, is)))
-          (λ y is. subst (λ x. GoesOn (ShowsBetween s before was was) (IsReadyWith (known_with h att) was) x (commits (Remove (Leaf (image_uuid l) (image_uuid p)) ∷ []))) (sym is)
+          (λ y is. subst (λ x. GoesOn (ShowsBetween s before was was (known m).logs) (IsReadyWith (known_with h att) was) x (commits (Remove (Leaf (image_uuid l) (image_uuid p)) ∷ []))) (sym is)
           (ready_fine s last (known_with h att) (reads (g.area a)) before was was (orderly_then h att so) last_ready.ready last_ready.shown, last_ready))
 
       done : {b : S} {came ok : Type 0} (n : Memory) → DoesRun g (commits changes) a b came → (ok → came × (known n ≡ known_with h att)) → StoreDoes g Gc a m b n ok
       unfolding disks_next
-      done n run by = law_run (known n) told run well by
+      done n run by = law_run (known n) told run well refl by
 
       -- all of them succeeded
       pub done_end : {b : S} → DoesRun g (commits changes) a b (Unit {0}) → (tree : Tree) → tree.rows ≡ swapped_rows l (tree_row m.tree.rows p) p m.tree.rows → (n : Memory) → n ≡ after tree att → (ok : Type 0) → StoreDoes g Gc a m b n ok

@@ -7,9 +7,9 @@ use Rattle.std.proofs.lemmas.Option.{same_Some}
 use Rattle.std.specs.Option.{option_map}
 use Rattle.common_laws.specs.Lists.{In}
 use Rattle.common_laws.proofs.Lists.{In-filter}
-use Rattle.sm_base.specs.Kinds.{is_entry, is_image}
+use Rattle.sm_base.specs.Kinds.{is_entry, is_image, is_log}
 use Rattle.sm_base.specs.declared.names.Name.{Name}
-use Rattle.sm_base.specs.declared.names.Name.TheVariants.{Leaf, Old, Vhd}
+use Rattle.sm_base.specs.declared.names.Name.TheVariants.{Cbt, Leaf, Old, Vhd}
 use Rattle.vg_meta.specs.Tables.{IsTable, Row, VolumeTable, name_eq, names_of, rows}
 use Rattle.vg_meta.specs.Changes.{Permits, applied, renamed, tagged}
 use Rattle.vg_meta.specs.Text.{text}
@@ -28,8 +28,9 @@ use Rattle.sm_ready.specs.Known.{Known}
 use Rattle.sm_ready.specs.Runs.{AllMay}
 use Rattle.sm_ready.proofs.FitLaws.{fits_few}
 use Rattle.sm_ready.proofs.GoneLaws.{fewer_left}
+use Rattle.sm_ready.proofs.LogRows.{few_log_rows, image_apart}
 use Rattle.sm_ready.proofs.RemoveLaws.{names_without}
-use Rattle.gc_abandon.proofs.EntryLaws.{counted, entry_gone}
+use Rattle.gc_abandon.proofs.EntryLaws.{as_many, counted, entry_gone}
 use Rattle.gc_leaf.specs.Swapping.{IsMoved, shown_as, swap_changes}
 use Rattle.gc_leaf.proofs.SwapNames.{entries_renamed, images_renamed}
 use Rattle.gc_leaf.proofs.SwapPair.{apart, entry_alone, leaf_is, leaf_proper, leaf_vol, none_old, old_proper, parent_is, parent_vol, u, v}
@@ -95,8 +96,17 @@ module _ {s : Site} {t : VolumeTable} {m : Known} {l p : Name} {cursor : ℕ} (h
   pub leaf_parent : Vhd leaf ≢ Vhd parent
   leaf_parent is = apart h (let x = is in cc)
 
-  fits : (x : VolumeTable) → IsTable s.count x → length (table_images x) ≤ image_limit → names_in x is_entry ≡ entry → length (text x) ≤ text_limit s.count
-  fits x table few one = fits_few s.count x table h.orderly.few_extents few (omega (arith, ap (λ (ns : List Name). length ns) one))
+  -- ---- the text fits
+
+  -- the volumes of logs are as before
+  pub logs_stay : {x : VolumeTable} {a b c : Option Row} {es : List Name} → Stage x a b c es → (n : Name) → is_log n ≡ true → rows x n ≡ rows t n
+  logs_stay z (Cbt d) log = z.others (Cbt d) (image_apart (Vhd leaf) refl d) (image_apart (Vhd parent) refl d) (image_apart (Old leaf) refl d) refl
+  logs_stay z _ log = absurd (let e = log in cc)
+
+  fits : {x : VolumeTable} {a b c : Option Row} {es : List Name} → Stage x a b c es → length es ≤ 1 → length (text x) ≤ text_limit s.count
+  fits {x = x} z one =
+      fits_few s.count x z.table h.orderly.few_extents z.few (omega (arith, as_many is_log s.count x t z.table h.orderly.table (logs_stay z), few_log_rows s t m h.orderly))
+      (omega (arith, ap (λ (ns : List Name). length ns) z.entries_are, one))
 
   -- ---- each table
 
@@ -193,19 +203,19 @@ module _ {s : Site} {t : VolumeTable} {m : Known} {l p : Name} {cursor : ℕ} (h
   pub all_may : AllMay s.count t (swap_changes leaf parent)
   all_may = (
     may_1,
-    fits table_1 stage_1.table stage_1.few stage_1.entries_are,
+    fits stage_1 (omega arith),
     (
       may_2,
-      fits table_2 stage_2.table stage_2.few stage_2.entries_are,
+      fits stage_2 (omega arith),
       (
         may_3,
-        fits table_3 stage_3.table stage_3.few stage_3.entries_are,
+        fits stage_3 (omega arith),
         (
           may_4,
-          fits table_4 stage_4.table stage_4.few stage_4.entries_are,
+          fits stage_4 (omega arith),
           (
             may_5,
-            fits_few s.count table_then stage_5.table h.orderly.few_extents stage_5.few (omega (arith, ap (λ (ns : List Name). length ns) stage_5.entries_are)),
+            fits stage_5 (omega arith),
             tt,
           ),
         ),

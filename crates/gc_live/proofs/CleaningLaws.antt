@@ -30,12 +30,12 @@ use Rattle.gc_live.proofs.CleanedShapes.{clean_more, cleaned_more, fewer_dirty}
 -- what is done where a call succeeded
 pub now_done : {S : Type 0} (g : Ghosts S) (a b : S) {n : Known} {ok : Type 0} {ds : List Disk} → ok → HasDone (g.site a) (tab g a) (tab g b) (g.area a) (g.area b) n (StoreLeaves g a) (StoreLeaves g b) ok ds
     → HasDone (g.site a) (tab g a) (tab g b) (g.area a) (g.area b) n (StoreLeaves g a) (StoreLeaves g b) (Unit {0}) ds
-now_done g a b fine d = record { ready = λ _. d.ready fine; settled = λ _. d.settled fine; shown = λ _. d.shown fine; crash = d.crash }
+now_done g a b fine d = record { ready = λ _. d.ready fine; settled = λ _. d.settled fine; shown = λ _. d.shown fine; crash = d.crash; logged = d.logged }
 
 -- and where there is nothing that could fail
 pub any_done : {S : Type 0} (g : Ghosts S) (a b : S) {n : Known} {ds : List Disk} (ok : Type 0) → HasDone (g.site a) (tab g a) (tab g b) (g.area a) (g.area b) n (StoreLeaves g a) (StoreLeaves g b) (Unit {0}) ds
     → HasDone (g.site a) (tab g a) (tab g b) (g.area a) (g.area b) n (StoreLeaves g a) (StoreLeaves g b) ok ds
-any_done g a b ok d = record { ready = λ _. d.ready tt; settled = λ _. d.settled tt; shown = λ _. d.shown tt; crash = d.crash }
+any_done g a b ok d = record { ready = λ _. d.ready tt; settled = λ _. d.settled tt; shown = λ _. d.shown tt; crash = d.crash; logged = d.logged }
 
 -- ---- a dirty block is copied
 

@@ -23,7 +23,7 @@ entry_for-entry-requires-clause-parent g c = (parent_named _ _ (known c.args.mem
 pub returns-in_err-raise-clause-done : goal.returns-in_err-raise-clause-done
 returns-in_err-raise-clause-done g c = λ told ready.
     let e = c.raise.ensures in
-    raise_failed e.stays (e.safe told ready) (g.met.S.Store.leaves_now c.raise.new.store told (e.stays.failed ∙ c.requires.session.usable)) _ _ (λ fine. err_not_ok _ tt c.from_residual.ensures.0 fine)
+    raise_failed e.stays (e.safe told ready) (g.met.S.Store.leaves_now c.raise.new.store told (e.stays.failed ∙ c.requires.session.usable)) _ refl _ (λ fine. err_not_ok _ tt c.from_residual.ensures.0 fine)
 
 pub returns-in_err-raise-clause-still : goal.returns-in_err-raise-clause-still
 returns-in_err-raise-clause-still g c = λ told ready again.
@@ -44,7 +44,7 @@ returns-in_err-put-clause-done g c = λ told ready.
     let e = c.in_ok-raise.ensures in
     let h = to_enter {a = c.args.store.now} {b = c.raise.new.store} c.args.memory.now c.raise.new.memory c.requires.session.orderly c.requires.can e.stays e.session_still.orderly e.session_still.tidy e.shape e.others.operation in
     let w = e.ready told ready in
-    put_failed c.raise.new.memory h e.stays c.requires.session.usable told (e.safe told ready) w.0 w.1 _ _ (λ fine. err_not_ok _ tt c.from_residual-in_err-put.ensures.0 fine) c.in_err-put.ensures.fails
+    put_failed c.raise.new.memory h e.stays c.requires.session.usable told (e.safe told ready) w.0 w.1 _ refl _ (λ fine. err_not_ok _ tt c.from_residual-in_err-put.ensures.0 fine) c.in_err-put.ensures.fails
     (λ v image l. subst (λ n. IsEitherOf (stored g.S.Store c.raise.new.store) (Create n false []) v image) c.entry_for-entry.ensures (c.put.ensures.crash told v image l))
 
 pub returns-in_err-put-clause-still : goal.returns-in_err-put-clause-still

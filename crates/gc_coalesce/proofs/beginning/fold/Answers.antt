@@ -29,7 +29,7 @@ pub returns-in_default-make_room-clause-done : goal.returns-in_default-make_room
 unfolding disks_next
 returns-in_default-make_room-clause-done g c = λ told ready.
     let e = c.make_room.ensures in
-    only_read c.args.memory.now c.requires.session.orderly c.requires.session.usable told ready (g.met.S.Store.leaves_now c.args.store.now told c.requires.session.usable) e.reads e.same.0 e.leaves _ _ (λ fine. absurd (let x = fine in cc))
+    only_read c.args.memory.now c.requires.session.orderly c.requires.session.usable told ready (g.met.S.Store.leaves_now c.args.store.now told c.requires.session.usable) e.reads e.same.0 e.leaves _ _ (λ fine. absurd (let x = fine in cc)) refl
 
 pub returns-in_default-make_room-clause-still : goal.returns-in_default-make_room-clause-still
 returns-in_default-make_room-clause-still g c = λ told ready again w image l. record { table = w; image = image; left = inl (c.make_room.ensures.leaves w image l); shown = refl }

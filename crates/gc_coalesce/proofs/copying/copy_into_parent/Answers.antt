@@ -35,7 +35,7 @@ returns-in_err-sync-clause-done g c = λ told ready.
     never_done {g = g.S.Store} (is_told g.S.Store c.args.store.now c.args.memory.now c.requires.session.orderly c.requires.session.usable told ready
     (g.met.S.Store.leaves_now c.args.store.now told c.requires.session.usable))
     (record { site = c.sync.ensures.site; table = c.sync.ensures.table.0; failed = c.sync.ensures.table.1; keeps = c.sync.ensures.keeps told; leaves = c.sync.ensures.leaves told })
-    (known c.args.memory.now) _ (λ fine. err_not_ok _ tt c.from_residual.ensures.0 fine)
+    (known c.args.memory.now) refl _ (λ fine. err_not_ok _ tt c.from_residual.ensures.0 fine)
 
 pub returns-in_err-sync-clause-masked : goal.returns-in_err-sync-clause-masked
 returns-in_err-sync-clause-masked g c = λ told ready again t image l.

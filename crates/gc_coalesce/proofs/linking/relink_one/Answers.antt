@@ -34,7 +34,7 @@ returns-in_err-sync-clause-done g c = λ told ready.
     rest_failed g.S.Store c.args.store.now c.sync.new.self c.args.memory.now
     (is_told g.S.Store c.args.store.now c.args.memory.now c.requires.orderly c.requires.usable told ready (g.met.S.Store.leaves_now c.args.store.now told c.requires.usable))
     (record { site = c.sync.ensures.site; table = c.sync.ensures.table.0; failed = c.sync.ensures.table.1; keeps = c.sync.ensures.keeps told; leaves = c.sync.ensures.leaves told })
-    _ _ (λ fine. err_not_ok _ tt c.from_residual.ensures.0 fine)
+    _ refl _ (λ fine. err_not_ok _ tt c.from_residual.ensures.0 fine)
 
 pub unreachable-requires-in_default-take : goal.unreachable-requires-in_default-take
 unreachable-requires-in_default-take g c =
@@ -119,7 +119,7 @@ returns-in_err-linked-clause-done g c = λ told ready.
     relink_failed g.S.Store c.args.store.now c.sync.new.self c.set_parent-linked.new.store c.args.memory.now c.args.child.now c.in-Relink.out c.in-Relink.parent c.in-Some.row c.in-Some-get.above.now
     (unlinked g c) (unlinked_above g c)
     c.requires.usable g.met.S.Store.leaves_now (unlinked_rest g c) c.set_parent-linked.ensures.works c.set_parent-linked.ensures.changes told ready
-    _ _ (λ fine. err_not_ok _ tt c.from_residual-in_err-linked.ensures.0 fine)
+    _ refl _ (λ fine. err_not_ok _ tt c.from_residual-in_err-linked.ensures.0 fine)
 
 -- where the sync behind it failed
 abbrev unsynced : (g : Over) (c : goal.After-from_residual-in_err-sync-2 g)
@@ -147,7 +147,7 @@ returns-in_err-sync-2-clause-done g c = λ told ready.
     (unsynced g c) (unsynced_above g c)
     c.requires.usable g.met.S.Store.leaves_now (unsynced_rest g c) c.set_parent-linked.ensures.works c.set_parent-linked.ensures.changes told ready c.sync-2.new.self
     (record { site = c.sync-2.ensures.site; table = c.sync-2.ensures.table.0; failed = c.sync-2.ensures.table.1; keeps = c.sync-2.ensures.keeps told; leaves = c.sync-2.ensures.leaves told })
-    _ _ (λ fine. err_not_ok _ tt c.from_residual-in_err-sync-2.ensures.0 fine)
+    _ refl _ (λ fine. err_not_ok _ tt c.from_residual-in_err-sync-2.ensures.0 fine)
 
 -- before it is counted
 abbrev noting : (g : Over) (c : goal.After-out-2-1 g) → IsToLinkIn g.S.Store c.args.store.now c.args.memory.now c.args.child.now c.in-Relink.out c.in-Relink.parent c.in-Some.row

@@ -39,7 +39,7 @@ loop-block-preserved g c =
 
 pub returns-in_err-copy_dirty-clause-done : goal.returns-in_err-copy_dirty-clause-done
 unfolding disks_next
-returns-in_err-copy_dirty-clause-done g c = λ told ready. only_crash (λ fine. err_not_ok _ tt c.from_residual.ensures.0 fine) (c.copy_dirty.ensures.done told ready).crash
+returns-in_err-copy_dirty-clause-done g c = λ told ready. let d = c.copy_dirty.ensures.done told ready in only_crash (λ fine. err_not_ok _ tt c.from_residual.ensures.0 fine) d.crash d.logged
 
 pub returns-in_err-copy_dirty-2-clause-step : goal.returns-in_err-copy_dirty-2-clause-step
 returns-in_err-copy_dirty-2-clause-step g c = then_steps c.loop-block.invariant.0.step c.copy_dirty-in-Some.ensures.step
@@ -48,7 +48,7 @@ pub returns-in_err-copy_dirty-2-clause-done : goal.returns-in_err-copy_dirty-2-c
 unfolding disks_next
 returns-in_err-copy_dirty-2-clause-done g c = λ told ready.
     let d = done_then {g = g.S.Store} g.met.S.Store.leaves_now c.requires.session c.loop-block.invariant.0 (known c.copy_dirty-in-Some.new.memory) (c.copy_dirty-in-Some.result ≡ Ok tt) told ready (λ made. c.copy_dirty-in-Some.ensures.done told made) in
-    only_crash (λ fine. err_not_ok _ tt c.from_residual-in_err-copy_dirty-2.ensures.0 fine) d.crash
+    only_crash (λ fine. err_not_ok _ tt c.from_residual-in_err-copy_dirty-2.ensures.0 fine) d.crash d.logged
 
 pub returns-in_err-copy_dirty-2-clause-still : goal.returns-in_err-copy_dirty-2-clause-still
 returns-in_err-copy_dirty-2-clause-still g c = λ told ready again.

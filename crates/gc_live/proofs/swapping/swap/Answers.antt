@@ -22,7 +22,7 @@ returns-in_default-clause-lowered g c =
 
 pub returns-in_err-clean-clause-done : goal.returns-in_err-clean-clause-done
 unfolding disks_next
-returns-in_err-clean-clause-done g c = λ told ready. only_crash (λ fine. err_not_ok _ tt c.from_residual.ensures.0 fine) (c.clean.ensures.done told ready).crash
+returns-in_err-clean-clause-done g c = λ told ready. let d = c.clean.ensures.done told ready in only_crash (λ fine. err_not_ok _ tt c.from_residual.ensures.0 fine) d.crash d.logged
 
 pub returns-clause-step : goal.returns-clause-step
 returns-clause-step g c = then_steps c.clean.ensures.step c.swap-2.ensures.step
