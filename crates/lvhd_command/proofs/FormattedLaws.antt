@@ -28,6 +28,7 @@ use Rattle.vg_store.specs.Formats.{IsFormatted, new_group}
 use Rattle.vg_volumes.specs.Volumes.{piece, spot}
 use Rattle.sm_standing.specs.Checks.{is_entry_linked, is_lost, is_damaged, is_invalid, is_misnamed, is_tree_wrong}
 use Rattle.sm_standing.specs.Images.{image_of}
+use Rattle.sm_standing.specs.Logs.{logs, logs_in}
 use Rattle.sm_standing.specs.Outlines.{outline}
 use Rattle.sm_standing.specs.Contents.{Content, row, reading_at, sectors_of}
 use Rattle.sm_standing.specs.Opened.{cleaned, end_changes, ended, opened, undo_changes, undone}
@@ -218,10 +219,10 @@ device_empty size h g repository f settled ds m =
 
 -- a content with the table of a new group: the shape of a new repository
 abbrev shape_of : Content → ℕ → List Disk → Shape
-shape_of c m ds = record { sequence = 1; extent = c.extent; block = c.block; entries = c.entries; extents = c.count; others = m; records = map disk_record ds; images = []; attached = []; op = Idle }
+shape_of c m ds = record { sequence = 1; extent = c.extent; block = c.block; entries = c.entries; extents = c.count; others = m; records = map disk_record ds; images = []; logs = []; attached = []; op = Idle }
 
 opened_so : (c : Content) (n : ℕ) → opened (emptied c n) ≡ shape_of c (sum (length (range_with_len 0 n) ∷ [])) (disks (emptied c n))
-unfolding opened ended end_changes undone undo_changes cleaned shape image_row_of image_of
+unfolding opened ended end_changes undone undo_changes cleaned shape image_row_of image_of logs logs_in
 opened_so c n = refl
 
 records_alone : (n : ℕ) → sum (length (range_with_len 0 n) ∷ []) ≡ n

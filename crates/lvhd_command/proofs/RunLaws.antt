@@ -21,11 +21,11 @@ use Rattle.vg_store.specs.Groups.{LeavesGroup, area_of}
 use Rattle.vg_volumes.specs.Sites.{Site, area_size}
 use Rattle.sm_ready.specs.Known.{Known, entry_of, shape_in}
 use Rattle.sm_ready.specs.Orderly.{IsOrderly}
-use Rattle.sm_ready.specs.Ready.{IsReady, IsTidy}
+use Rattle.sm_ready.specs.Ready.{HasNoStrayLog, IsReady, IsTidy}
 use Rattle.sm_ready.specs.Sessions.{KeepsAll, state_in}
 use Rattle.sm_ready.specs.Stores.{Left, MayShow, content_in, content_now}
 use Rattle.sm_ready.proofs.RepairLaws.{ready_synced, same_left}
-use Rattle.sm_ready.proofs.StrayLaws.{law_state}
+use Rattle.sm_ready.proofs.StateLaws.{law_state}
 use Rattle.sm_run.specs.Runs.{HasRun}
 use Rattle.sm_recover.specs.Repairs.{UnlessDeviceFailed}
 use Rattle.sm_run.specs.declared.runs.RunFault.{RunFault}
@@ -68,9 +68,9 @@ pub record IsStateWith (site : Site) (t : VolumeTable) (area : Held) (σ : State
   pub entries : names_in t is_entry ≡ entry_of σ.shape.op
 
 -- so it is of a session between two steps
-pub session_state : (site : Site) (t : VolumeTable) (area : Held) (m : Known) → IsOrderly site t m → IsTidy t m → IsReady site t area m → IsStateWith site t area (state_in site t area m)
+pub session_state : (site : Site) (t : VolumeTable) (area : Held) (m : Known) → IsOrderly site t m → IsTidy t m → HasNoStrayLog m → IsReady site t area m → IsStateWith site t area (state_in site t area m)
 unfolding shape_in
-session_state site t area m o tidy ready = record { state = law_state site t area m o tidy ready; entries = o.entries }
+session_state site t area m o tidy no_stray ready = record { state = law_state site t area m o tidy no_stray ready; entries = o.entries }
 
 -- what stands on a device that was given back, as a read gives it: the session's content, with its table
 pub record StandsBack (size : ℕ) (site : Site) (held after : Held) (t : VolumeTable) : Type 0 where

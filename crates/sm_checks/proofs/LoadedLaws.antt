@@ -22,7 +22,7 @@ use Rattle.vhd_chain.specs.declared.rows.TreeRow.{TreeRow}
 use Rattle.vhd_chain.proofs.ByName.{tree_row-name, tree_row-with_same, tree_row-with_other}
 use Rattle.sm_ready.proofs.LoadLaws.{IsItem, IsReadFrom, among, read_less, read_none, read_some}
 use Rattle.sm_ready.proofs.Orders.{In-tree_row}
-use Rattle.sm_ready.proofs.ShapeLaws.{row_cmp, rising_rows}
+use Rattle.sm_ready.proofs.RowLaws.{rising_rows, row_cmp}
 use Rattle.sm_checks.specs.Loaded.{AreRowsOf, HasEachRow, IsFilledImage, IsReadAs, IsRow, row_among, row_with}
 
 -- ---- the row of a volume

@@ -5,16 +5,17 @@ use Rattle.std.specs.Ordering.{is_lt}
 use Rattle.std.proofs.lemmas.Bool.{true≢false}
 use Rattle.std.proofs.lemmas.Option.{none-some, same_Some}
 use Rattle.sm_base.specs.Limits.{extent_limit}
-use Rattle.sm_base.specs.Kinds.{is_entry, is_image}
+use Rattle.sm_base.specs.Kinds.{is_entry, is_image, is_log}
 use Rattle.sm_base.specs.Names.{name_cmp}
 use Rattle.sm_base.specs.declared.names.Name.{Name}
 use Rattle.sm_base.specs.declared.names.Name.TheVariants.{Vhd, Raw, Old}
 use Rattle.vg_meta.specs.Changes.{Permits, applied, cut_to, put, put_some, renamed, tagged, with_row, without}
-use Rattle.vg_meta.specs.Tables.{IsTable, Row, VolumeTable, name_eq, names_of, row_of}
+use Rattle.vg_meta.specs.Tables.{IsTable, IsVolume, Row, VolumeTable, name_eq, names_of, row_of}
 use Rattle.vg_meta.specs.Text.{text}
 use Rattle.vg_meta.specs.declared.changes.Change.{Change}
 use Rattle.vg_meta.specs.declared.changes.Change.TheVariants.{Create, Remove, Rename, Grow, Cut, Mark}
 use Rattle.vg_meta.proofs.ChangeLaws.{IsTable-applied, tagged_name}
+use Rattle.vg_meta.proofs.LogLaws.{volume_no_log}
 use Rattle.vg_meta.proofs.RowLaws.{row_of-name}
 use Rattle.vg_volumes.specs.Sites.{text_limit}
 use Rattle.sm_machine.specs.Shapes.{image_limit}
@@ -23,6 +24,7 @@ use Rattle.sm_standing.specs.Opened.{applied_all}
 use Rattle.sm_ready.specs.Runs.{AllMay}
 use Rattle.sm_ready.proofs.FitLaws.{fits_entries}
 use Rattle.sm_ready.proofs.GoneLaws.{fewer_left}
+use Rattle.sm_ready.proofs.LogRows.{table_logs}
 
 -- ---- volumes that pass a test
 
@@ -128,8 +130,17 @@ names_counted (r ∷ rs) = by (is_entry r.name) (names_counted rs)
     by true rest = ap suc rest
     by false rest = rest
 
+-- no volume is a log
+no_log_rows : (rs : List Row) → AllByRecursion IsVolume rs → filter (λ r. is_log r.name) rs ≡ []
+no_log_rows [] each = refl
+no_log_rows (r ∷ rs) each = ap (λ b. cond b (r ∷ filter (λ q. is_log q.name) rs) (filter (λ q. is_log q.name) rs)) (volume_no_log r each.0) ∙ no_log_rows rs each.1
+
+pub no_logs : {count : ℕ} {t : VolumeTable} → IsTable count t → length (table_logs t) ≡ 0
+no_logs {count} {t} table = ap (λ (rs : List Row). length rs) (no_log_rows t.volumes table.volumes.each)
+
 pub small_fits : {count : ℕ} {t : VolumeTable} → count ≤ extent_limit → IsSmall count t → length (text t) ≤ text_limit count
-small_fits {count} {t} extents small = fits_entries count t small.table extents small.few_images (omega (arith, names_counted t.volumes, small.few_entries))
+small_fits {count} {t} extents small =
+    fits_entries count t small.table extents small.few_images (omega (arith, no_logs small.table)) (omega (arith, names_counted t.volumes, small.few_entries))
 
 image_no_entry : (n : Name) → is_image n ≡ true → is_entry n ≡ false
 image_no_entry n image = not_both n image

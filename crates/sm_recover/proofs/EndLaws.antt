@@ -29,8 +29,7 @@ use Rattle.sm_standing.proofs.Orders.{rising_ext}
 use Rattle.sm_ready.proofs.EntryKinds.{image_not_folding}
 use Rattle.sm_ready.specs.Cleaned.{HasFewRemovals}
 use Rattle.sm_ready.specs.Runs.{AllMay}
-use Rattle.sm_ready.proofs.RowLaws.{found_in}
-use Rattle.sm_ready.proofs.ShapeLaws.{rising_rows, row_cmp}
+use Rattle.sm_ready.proofs.RowLaws.{found_in, rising_rows, row_cmp}
 use Rattle.sm_checks.specs.Openable.{IsOpenable}
 use Rattle.sm_recover.specs.Repairs.{IsEndable, IsUndoable}
 use Rattle.sm_recover.specs.Steps.{IsPartOf, ends_copy, first_changes, uncopied}

@@ -9,7 +9,7 @@ use Rattle.sm_base.specs.declared.names.Name.TheVariants.{Mgt, Vhd, Raw, Old, Cb
 use Rattle.sm_machine.specs.Operations.{Idle}
 use Rattle.sm_base.specs.declared.sizes.Geometry.{Geometry}
 use Rattle.sm_disk.specs.Held.{Held, IsSettled, reads}
-use Rattle.vg_meta.proofs.LogLaws.{volume_no_log}
+use Rattle.vg_meta.proofs.LogLaws.{no_log_found, volume_no_log}
 use Rattle.vg_meta.specs.Tables.{VolumeTable, Row, IsVolume, extents_of, rows}
 use Rattle.vg_volumes.specs.Sites.{Site, volume_of}
 use Rattle.vg_volumes.specs.Stored.{held_in, sectors_in}
@@ -41,11 +41,12 @@ use Rattle.vhd_image.specs.Steady.{IsSteady}
 use Rattle.vhd_image.specs.declared.images.Body.{Body}
 use Rattle.vhd_image.specs.declared.images.Body.TheVariants as body
 use Rattle.vhd_image.proofs.SteadyLaws.{steady_quiet, true_quiet}
-use Rattle.sm_ready.specs.Known.{Known, machine_row, shape_in}
+use Rattle.sm_ready.specs.Known.{Known, machine_row, row_face, shape_in}
 use Rattle.sm_ready.specs.Orderly.{IsOrderly}
 use Rattle.sm_ready.specs.Ready.{IsReady}
 use Rattle.sm_ready.specs.Stores.{content_now}
 use Rattle.sm_ready.proofs.BegunLaws.{IsRead, begun_with, begun_orderly, begun_ready}
+use Rattle.sm_ready.proofs.LogLaws.{logged_none}
 use Rattle.sm_ready.proofs.NewVolumeLaws.{not_records}
 use Rattle.sm_ready.proofs.NumberLaws.{whole_blocks}
 use Rattle.sm_ready.proofs.RepairLaws.{all_quiet}
@@ -210,6 +211,7 @@ module _ {S : Type 0} (g : Ghosts S) (store : S) (xs : List TreeRow) (places : L
       named = k.named;
       new_image = λ r i new. plain_image r.name (plain_at r i) (no_log_at r i) (not_records d.table (r, found_in t.volumes d.table.volumes.rising r i, new));
       no_entry = no_entry t d.plain;
+      no_log = λ u. ap row_face (no_log_found d.table u);
       from = read_from xs;
       all = λ r i image filled. read_each t.volumes xs each r i (plain_image r.name (plain_at r i) (no_log_at r i) (λ is. true≢false (sym image ∙ ap is_image is))) filled;
       proper = proper;
@@ -224,9 +226,9 @@ module _ {S : Type 0} (g : Ghosts S) (store : S) (xs : List TreeRow) (places : L
     }
 
     -- memory as an opening has made it by then
-    pub opened_with : (attached : Attached) → attached.disks ≡ [] → attached.counts ≡ [] → IsOrderly s t (record { rows = xs; places = places; attached = attached; op = Idle })
+    pub opened_with : (attached : Attached) → attached.disks ≡ [] → attached.counts ≡ [] → IsOrderly s t (record { rows = xs; places = places; logs = []; attached = attached; op = Idle })
     opened_with attached disks counts =
-        subst (IsOrderly s t) (λ i. record { rows = xs; places = places; attached = record { disks = sym disks i; counts = sym counts i; room = attached.room }; op = Idle })
+        subst (IsOrderly s t) (λ i. record { rows = xs; places = places; logs = []; attached = record { disks = sym disks i; counts = sym counts i; room = attached.room }; op = Idle })
         (begun_orderly read attached.room)
 
   -- ---- and ready, where nothing is pending, no slot is empty, and the places are those of the store
@@ -270,10 +272,11 @@ module _ {S : Type 0} (g : Ghosts S) (store : S) (xs : List TreeRow) (places : L
         subst₂ (λ k n. IsSteady s.geometry (k * s.geometry.extent) (volume_of s t (g.area store) n) x.image) (sym w.row.extents) (sym w.row.named)
         (steady_named w.volume w.volume.name x.image (found_in t.volumes d.table.volumes.rising w.volume w.there) w.filled.filled w.row.image)
 
-    pub opened_ready : (attached : Attached) → Agrees (records_held s was (g.area store)) places → IsReady s t (g.area store) (record { rows = xs; places = places; attached = attached; op = Idle })
+    pub opened_ready : (attached : Attached) → Agrees (records_held s was (g.area store)) places → IsReady s t (g.area store) (record { rows = xs; places = places; logs = []; attached = attached; op = Idle })
     opened_ready attached agrees =
         begun_ready s t (g.area store) _ steady settled
-        (subst (λ o. Agrees (volume s.geometry.extent (extents_of o) (g.area store)) places) (sym records_same) agrees) refl
+        (subst (λ o. Agrees (volume s.geometry.extent (extents_of o) (g.area store)) places) (sym records_same) agrees)
+        (logged_none s t (g.area store) (λ u. ap row_face (no_log_found d.table u))) refl
 
   -- ---- and true, where nothing is pending: a sector in each slot is not asked
 

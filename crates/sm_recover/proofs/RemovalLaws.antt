@@ -22,6 +22,7 @@ use Rattle.sm_ready.proofs.GoneLaws.{fewer_left}
 use Rattle.sm_ready.proofs.NewVolumeLaws.{may_remove}
 use Rattle.sm_ready.proofs.Orders.{none_of}
 use Rattle.sm_recover.specs.Repairs.{IsChecked}
+use Rattle.sm_recover.proofs.CountLaws.{no_logs}
 
 pub checked_one : {s : Site} {t : VolumeTable} (n : Name) → IsChecked s t → IsNewVolume t n → IsChecked s (applied t (Remove n))
 checked_one {s} {t} n c new =
@@ -47,4 +48,4 @@ no_entry t plain = none_of (names_in t is_entry) (λ n i.
     true≢false (sym w.1 ∙ ap is_entry r.2 ∙ (not_special r.0.name (all-In (λ (x : Row). is_plain x ≡ true) t.volumes r.0 plain r.1)).no_journal))
 
 pub text_fits : {s : Site} {t : VolumeTable} → IsChecked s t → length (text t) ≤ text_limit s.count
-text_fits {s} {t} c = fits_few s.count t c.table c.few_extents c.few_images (omega (arith, ap (λ (ns : List Name). length ns) (no_entry t c.plain)))
+text_fits {s} {t} c = fits_few s.count t c.table c.few_extents c.few_images (omega (arith, no_logs c.table)) (omega (arith, ap (λ (ns : List Name). length ns) (no_entry t c.plain)))

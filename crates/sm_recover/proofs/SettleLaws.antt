@@ -26,7 +26,7 @@ use Rattle.sm_ready.specs.Frames.{HasCommits}
 use Rattle.sm_ready.specs.Does.{store_shape}
 use Rattle.sm_ready.specs.Known.{known, shape_in}
 use Rattle.sm_ready.specs.Orderly.{IsOrderly}
-use Rattle.sm_ready.specs.Ready.{IsReady}
+use Rattle.sm_ready.specs.Ready.{HasNoStrayLog, IsReady}
 use Rattle.sm_ready.specs.Repairs.{IsAtRest, IsSame, content_of}
 use Rattle.sm_ready.specs.Sessions.{IsAtEase, IsOrderlyStore}
 use Rattle.sm_ready.specs.Stores.{content_in, store_content}
@@ -141,15 +141,15 @@ module _ {S : Type 0} {g : Ghosts S} {a b d : S} (r : OnlyReads g a b) (site : g
 
     -- and the shape that an opening is to make of it is the one that it is to make of what stood first
     pub opened_behind : (m n : Memory) → IsSoundButLeaf (store_content g a) → IsSettled (g.area a) → IsOrderly (g.site a) (undone (unfolded t)) (known m) → IsReady (g.site a) (undone (unfolded t)) (g.area a) (known m) → IsAtEase m
-        → IsAtRest (stored g e) (known n) → n.attached.disks ≡ [] → IsLinkRight t m.tree.rows
+        → HasNoStrayLog (known m) → IsAtRest (stored g e) (known n) → n.attached.disks ≡ [] → HasNoStrayLog (known n) → IsLinkRight t m.tree.rows
         → LinkedBy (head (folding (table_alone (g.table d)))) m.tree.rows (shape_in (g.site d) (unfolded (table_alone (g.table d))) (known m)) (store_shape g e n)
         → opened (content_of (stored g e)) ≡ opened (store_content g a)
-    opened_behind m n sound was orderly ready ease rest unattached right linked =
+    opened_behind m n sound was orderly ready ease none_first rest unattached none_then right linked =
         let x : Stored = record { site = g.site a; table = undone (unfolded t); area = g.area a } in
         let s = but_leaf_known (store_content g a) sound in
         let begun : IsAtRest x (known m) = record { orderly = orderly; ready = ready; settled = was; idle = ease.idle } in
-        let first = opened_shape x (known m) begun ease.unattached in
-        let last = opened_shape (stored g e) (known n) rest unattached in
+        let first = opened_shape x (known m) begun ease.unattached none_first in
+        let last = opened_shape (stored g e) (known n) rest unattached none_then in
         let shapes : store_shape g e n ≡ linked_up t (shape_in (g.site a) (undone (unfolded t)) (known m)) =
         (first_done c).linked m.tree.rows _ _ right (subst (λ u. LinkedBy (head (folding u)) m.tree.rows (shape_in (g.site a) (undone (unfolded t)) (known m)) (store_shape g e n)) first_behind
         (subst₂ (λ z u. LinkedBy (head (folding (table_alone (g.table d)))) m.tree.rows (shape_in z u (known m)) (store_shape g e n)) same_site less_behind linked)) in

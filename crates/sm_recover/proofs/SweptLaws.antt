@@ -3,6 +3,7 @@
 use Rattle.std.proofs.Common.{◌≡◌, ◌⊎◌, inl, inr, ℕ, zero, suc, ◌≤◌, Bool, true, false, List, [], ◌∷◌, length, map, refl, sym, ap, ap₂, ◌∙◌, subst, arith}
 use Rattle.common_laws.specs.Lists.{In}
 use Rattle.sm_base.specs.declared.names.Name.{Name}
+use Rattle.sm_log.specs.Logs.{log_of}
 use Rattle.sm_machine.specs.Operations.{Idle}
 use Rattle.sm_disk.specs.Held.{Held, reads}
 use Rattle.sm_disk.proofs.HeldLaws.{Keeps-none}
@@ -11,12 +12,14 @@ use Rattle.vg_meta.specs.Tables.{Row}
 use Rattle.vg_meta.specs.declared.changes.Change.TheVariants.{Remove}
 use Rattle.vg_volumes.specs.Stored.{Stored}
 use Rattle.sm_standing.specs.Images.{image_of}
+use Rattle.sm_standing.specs.Logs.{log_at}
 use Rattle.sm_standing.specs.Opened.{cleaned, opened}
 use Rattle.sm_standing.specs.Shapes.{shape, unattached}
 use Rattle.sm_standing.specs.Standing.{disks}
 use Rattle.sm_standing.proofs.OpenedLaws.{opened_simple, shape_same}
 use Rattle.sm_standing.proofs.UndoneLaws.{undone_none}
 use Rattle.sm_ready.specs.Known.{Known, shape_in}
+use Rattle.sm_ready.specs.Ready.{HasNoStrayLog}
 use Rattle.sm_ready.specs.Repairs.{IsAtRest, IsNewVolume, RestsAgain, content_of}
 use Rattle.sm_ready.proofs.AgainLaws.{again_less, again_none, again_then}
 use Rattle.sm_ready.proofs.CleanLaws.{cleaned_all, cleaned_more}
@@ -24,7 +27,7 @@ use Rattle.sm_ready.proofs.NewVolumeLaws.{removed_shorter}
 use Rattle.sm_ready.proofs.Orders.{none_making}
 use Rattle.sm_ready.proofs.RemoveLaws.{none_folding}
 use Rattle.sm_ready.proofs.RowLaws.{found_in}
-use Rattle.sm_ready.proofs.ShapeLaws.{law_shape}
+use Rattle.sm_ready.proofs.StateLaws.{law_shape}
 use Rattle.sm_ready.specs.Stores.{content_now}
 
 -- none is new, or one is
@@ -117,19 +120,20 @@ module _ (x : Stored) (m : Known) (rest : IsAtRest x m) where
   unfolding shape_in
   detached z k attached idle = λ i. record (shape_in z.site z.table k) { attached = map (λ a. record { disk = a.0; mode = a.1 }) (attached i); op = idle i }
 
-  pub opened_shape : m.attached.disks ≡ [] → opened (content_of x) ≡ record (shape_in x.site x.table m) { sequence = (cleaned x.table).sequence }
+  pub opened_shape : m.attached.disks ≡ [] → HasNoStrayLog m → opened (content_of x) ≡ record (shape_in x.site x.table m) { sequence = (cleaned x.table).sequence }
   unfolding shape_in
-  opened_shape attached =
+  opened_shape attached no_stray =
       let r = again.rest rest in
-      opened_swept ∙ law_shape x.site (cleaned x.table) x.area m none_new r.orderly r.ready ∙ sym (detached (swept x) m attached rest.idle)
+      opened_swept ∙ law_shape x.site (cleaned x.table) x.area m none_new no_stray r.orderly r.ready ∙ sym (detached (swept x) m attached rest.idle)
 
   -- memory that is ready beside the store once the new volumes and the records of no disk are gone has the shape that an opening is to make
-  pub shape_opened : (z : Stored) (k : Known) → RestsAgain x z m k → z.site ≡ x.site → z.table ≡ cleaned x.table → ((r : Row) → In r z.table.volumes → r.fresh ≡ false) → k.attached.disks ≡ [] → k.op ≡ Idle
+  pub shape_opened : (z : Stored) (k : Known) → RestsAgain x z m k → z.site ≡ x.site → z.table ≡ cleaned x.table → ((r : Row) → In r z.table.volumes → r.fresh ≡ false) → k.attached.disks ≡ [] → k.op ≡ Idle → HasNoStrayLog k
       → shape_in z.site z.table k ≡ opened (content_of x)
-  shape_opened z k then site table old attached idle =
+  shape_opened z k then site table old attached idle no_stray =
       let r = then.rest rest in
       let is : z ≡ record { site = x.site; table = cleaned x.table; area = z.area } = ap₂ (λ s u. let y : Stored = record { site = s; table = u; area = z.area } in y) site table in
-      detached z k attached idle ∙ sym (law_shape z.site z.table z.area k old r.orderly r.ready) ∙ ap (λ y. shape (content_of y)) is
+      detached z k attached idle ∙ sym (law_shape z.site z.table z.area k old no_stray r.orderly r.ready) ∙ ap (λ y. shape (content_of y)) is
       ∙ shape_same (content_of (swept x)) (reads z.area) (ap (λ y. disks (content_of y)) (sym is) ∙ then.same_disks rest ∙ sym (again.same_disks rest))
       (λ n. ap (λ y. image_of (content_of y) n) (sym is) ∙ then.same_images rest n ∙ sym (again.same_images rest n))
+      (λ u. ap (λ y. log_at (content_of y) u) (sym is) ∙ r.ready.logs u ∙ ap (log_of u) then.same_logs ∙ sym ((again.rest rest).ready.logs u))
       ∙ sym opened_swept

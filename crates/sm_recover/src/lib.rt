@@ -36,7 +36,7 @@
 //! whatever the image holds. No check sees that.
 //!
 //! **What it costs.** That of the checks first. `Mgt::load` reads the 512 sectors of records and takes memory for them; behind the checks
-//! an opening takes that of the 505 rows that a table may come to have, less those that stand, and of as many attachments as images;
+//! an opening takes that of the 1,005 rows that a table may come to have, less those that stand, and of as many attachments as images;
 //! nothing else takes any. A repair is at most five commits for a
 //! fork and two for an enlargement, one commit for a copy and for a link, for each child of a link two syncs, two sectors read and one
 //! written, one commit for each new volume, one write for each stray record, and one sync, also where nothing is to repair.

@@ -40,8 +40,8 @@ use std::alloc::Global;
 use vg_volumes::Store;
 use vhd_chain::Tree;
 
-/// The most rows that a table may come to have: those of 500 images, of the volume of records, and of 4 journal entries.
-const MOST_ROWS: usize = 505;
+/// The most rows that a table may come to have: those of 500 images, of 500 logs, of the volume of records, and of 4 journal entries.
+const MOST_ROWS: usize = 1_005;
 
 /// Checks what stands in a store, takes the memory for all rows that its table and its tree may come to have, and answers
 /// what a session keeps in memory: what stands beside the table without the entries that it may have, as if what they say were

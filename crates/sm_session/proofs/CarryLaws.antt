@@ -7,9 +7,6 @@ use Rattle.sm_base.specs.declared.refusals.Refusal.TheVariants.{NoMemory}
 use Rattle.sm_machine.specs.Refusals.{refusal}
 use Rattle.std.proofs.lemmas.Bool.{true≢false}
 use Rattle.vg_volumes.specs.declared.stores.Store.{Ghosts}
-use Rattle.sm_machine.specs.Collector.{next_step}
-use Rattle.sm_machine.specs.Runs.{takes_memory}
-use Rattle.sm_run.specs.Runs.{begins, may_want_memory}
 use Rattle.sm_machine.specs.Shapes.{Shape}
 use Rattle.sm_machine.specs.declared.commands.Command.{Command}
 use Rattle.sm_machine.specs.declared.commands.Command.TheVariants as command
@@ -31,7 +28,7 @@ use Rattle.sm_ready.proofs.FramingLaws.{more_steps, reads_between, stays_steps}
 
 -- what is told of a command at any result is told of it where it failed
 pub stopped_at : {S : Type 0} (g : Ghosts S) (a b : S) (m n : Memory) (c : Command) (r : Result Reply Failed) (f : Failed) → StoreTakes g c a m b n r → StoreTakes g c a m b n (Err f)
-stopped_at g a b m n c r f taken = record { reply = tt; ready = tt; settled = tt; crash = taken.crash }
+stopped_at g a b m n c r f taken = record { reply = tt; ready = tt; settled = tt; crash = taken.crash; logged = taken.logged }
 
 -- no other command is a guest's
 pub not_guests : (c : Command) → is_guests c ≡ true → ((u : List ℕ) (mode : Mode) → c ≡ command.Attach u mode → ⊥) → ((u : List ℕ) → c ≡ command.Detach u → ⊥) → ((u : List ℕ) (sector : ℕ) (bytes : List ℕ) → c ≡ command.Write u sector bytes → ⊥)

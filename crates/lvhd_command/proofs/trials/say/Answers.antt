@@ -51,7 +51,7 @@ returns-in-Done-clause-rests g c = λ told ready keeps other.
       settled = settled;
       only = e.shown told whole ready settled;
       reads = reads_as size site (g.D.Disk.held s.store.inner.disk) (g.D.Disk.held c.close-status.result.1) (table_of s) _ back (e.one told whole)
-          (session_state site (table_of s) (area_of site.layout (g.D.Disk.held s.store.inner.disk)) (known s.memory) ((s.between whole).orderly) ((s.between whole).tidy) ready);
+          (session_state site (table_of s) (area_of site.layout (g.D.Disk.held s.store.inner.disk)) (known s.memory) ((s.between whole).orderly) ((s.between whole).tidy) (λ l i. absurd i) ready);
       kept = returns-in-Done-clause-kept g c told keeps;
     }
 

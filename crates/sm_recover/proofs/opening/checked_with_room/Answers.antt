@@ -1,4 +1,4 @@
-use Rattle.std.proofs.Common.{List, sym, ap, ◌∙◌, subst, subst₂, arith}
+use Rattle.std.proofs.Common.{List, [], sym, ap, ◌∙◌, subst, subst₂, arith}
 use Rattle.vg_meta.specs.Roomy.{table_alone}
 use Rattle.vg_volumes.proofs.StoredLaws.{reads_then}
 use Rattle.vhd_chain.specs.Reading.{AllAreTrue}
@@ -74,7 +74,7 @@ returns-clause-orderly g c =
     let was = table_alone (g.S.Store.table c.args.store.now) in
     let th = is_then g.S.Store c.args.store.now c.in_ok-tree.tree.rows c.in_ok-tree.records k.checked k.rows k.each k.long k.passed in
     let is = back_is g.S.Store c.args.store.now c.in_ok-tree.tree.rows c.in_ok-tree.records k.checked k.rows k.each k.long k.passed (ap table_alone c.table.ensures.table ∙ c.make_room.ensures.reads.stays.table ∙ c.checked.ensures.reads.stays.table) (ap table_alone c.table-2.ensures.table ∙ c.make_room.ensures.reads.stays.table ∙ c.checked.ensures.reads.stays.table) c.take_name.ensures.rows c.give_back.ensures.rows in
-    subst₂ (λ (ys : List TreeRow) (o : Op). IsOrderly (g.S.Store.site c.args.store.now) (undone (unfolded (unleafed was))) (record { rows = ys; places = c.in_ok-tree.records; attached = c.in-Ok-new.attached; op = o })) (sym is) (sym c.in-Ok-new-2.ensures)
+    subst₂ (λ (ys : List TreeRow) (o : Op). IsOrderly (g.S.Store.site c.args.store.now) (undone (unfolded (unleafed was))) (record { rows = ys; places = c.in_ok-tree.records; logs = []; attached = c.in-Ok-new.attached; op = o })) (sym is) (sym c.in-Ok-new-2.ensures)
     (opened_with g.S.Store c.args.store.now (rows_back (unleafed was) (rows_ended was c.in_ok-tree.tree.rows)) c.in_ok-tree.records (undoable_unfolded th.checked)
     (beside_bare g.S.Store c.args.store.now (rows_ended was c.in_ok-tree.tree.rows) c.in_ok-tree.records th.checked th.are th.each k.long th.pass) k.long c.in-Ok-new.attached c.in-Ok-new.ensures.disks c.in-Ok-new.ensures.counts)
 
@@ -84,7 +84,7 @@ returns-clause-ready g c = λ told settled well.
     let was = table_alone (g.S.Store.table c.args.store.now) in
     let th = is_then g.S.Store c.args.store.now c.in_ok-tree.tree.rows c.in_ok-tree.records k.checked k.rows k.each k.long k.passed in
     let is = back_is g.S.Store c.args.store.now c.in_ok-tree.tree.rows c.in_ok-tree.records k.checked k.rows k.each k.long k.passed (ap table_alone c.table.ensures.table ∙ c.make_room.ensures.reads.stays.table ∙ c.checked.ensures.reads.stays.table) (ap table_alone c.table-2.ensures.table ∙ c.make_room.ensures.reads.stays.table ∙ c.checked.ensures.reads.stays.table) c.take_name.ensures.rows c.give_back.ensures.rows in
-    subst₂ (λ (ys : List TreeRow) (o : Op). IsReady (g.S.Store.site c.args.store.now) (undone (unfolded (unleafed was))) (g.S.Store.area c.args.store.now) (record { rows = ys; places = c.in_ok-tree.records; attached = c.in-Ok-new.attached; op = o })) (sym is)
+    subst₂ (λ (ys : List TreeRow) (o : Op). IsReady (g.S.Store.site c.args.store.now) (undone (unfolded (unleafed was))) (g.S.Store.area c.args.store.now) (record { rows = ys; places = c.in_ok-tree.records; logs = []; attached = c.in-Ok-new.attached; op = o })) (sym is)
     (sym c.in-Ok-new-2.ensures)
     (opened_ready g.S.Store c.args.store.now (rows_back (unleafed was) (rows_ended was c.in_ok-tree.tree.rows)) c.in_ok-tree.records (undoable_unfolded th.checked)
     (beside_bare g.S.Store c.args.store.now (rows_ended was c.in_ok-tree.tree.rows) c.in_ok-tree.records th.checked th.are th.each k.long th.pass) told settled

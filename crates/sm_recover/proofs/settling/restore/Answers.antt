@@ -126,8 +126,8 @@ returns-clause-opened g c = λ told h.
     let begun = start r u.site u.undone c.requires.endable c.link_up.ensures.site l.unfolded c.link_up.new.memory l.orderly rest l.at_ease in
     let q : IsAtEase c.repair.new.memory = record { idle = c.repair.ensures.operation ∙ l.at_ease.idle; unattached = ap (λ a. a.disks) c.repair.ensures.attached ∙ l.at_ease.unattached } in
     shape_opened (stored g.S.Store c.link_up.new.store) (known c.link_up.new.memory) begun (stored g.S.Store c.repair.new.store) (known c.repair.new.memory)
-    (e.rest told) e.site e.cleaned e.tidy.none_new q.unattached q.idle
-    ∙ opened_behind r u.site u.undone c.requires.endable c.link_up.ensures.site l.unfolded c.args.memory.now c.link_up.new.memory h.sound h.settled c.requires.orderly h.ready c.requires.at_ease begun l.at_ease.unattached c.requires.linking l.shape
+    (e.rest told) e.site e.cleaned e.tidy.none_new q.unattached q.idle (λ v i. absurd i)
+    ∙ opened_behind r u.site u.undone c.requires.endable c.link_up.ensures.site l.unfolded c.args.memory.now c.link_up.new.memory h.sound h.settled c.requires.orderly h.ready c.requires.at_ease (λ v i. absurd i) begun l.at_ease.unattached (λ v i. absurd i) c.requires.linking l.shape
 
 pub returns-clause-crash : goal.returns-clause-crash
 returns-clause-crash g c = λ told t image leaves h.

@@ -1,6 +1,5 @@
 use Rattle.std.proofs.Common.{sym, subst}
 use Rattle.vg_meta.specs.Roomy.{table_alone}
-use Rattle.sm_ready.specs.Does.{store_shape}
 use Rattle.sm_ready.specs.Known.{known}
 use Rattle.sm_ready.specs.Ready.{IsReady}
 use Rattle.sm_ready.specs.Sessions.{IsReadyStore, KeepsAll}
