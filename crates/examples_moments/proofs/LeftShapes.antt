@@ -16,6 +16,7 @@ use Rattle.examples_standing.specs.SmallContents.{record_row}
 use Rattle.sm_standing.specs.Contents.{Content, record_of, is_record_of}
 use Rattle.sm_standing.specs.Entries.{image_with}
 use Rattle.sm_standing.specs.Images.{Image, image_of}
+use Rattle.sm_standing.specs.Logs.{logs, logs_in}
 use Rattle.sm_standing.specs.Opened.{cleaned, end_changes, ended, linked_up, opened, undo_changes, undone}
 use Rattle.sm_standing.specs.Shapes.{disk_record, image_row as row_as, shape, row_of as shape_row}
 use Rattle.sm_standing.specs.Standing.{standing_volume, disks, disk_at, uuids, with_uuid, in_order}
@@ -43,6 +44,7 @@ by_rows k a b ds = record {
   others = sum (elim a [ None ↦ 16 | Some i ↦ 0 ] ∷ elim b [ None ↦ 5 | Some i ↦ 0 ] ∷ []);
   records = map disk_record ds;
   images = cons_option a (cons_option b []);
+  logs = [];
   attached = [];
   op = Idle;
 }
@@ -68,7 +70,7 @@ module _ (k byte : ℕ) (y z : Sectors) (rs : List Record) where
   stands_left = refl
 
   rows_left : shape c ≡ by_rows k (shape_row c (record_row (numbers 0 16))) (shape_row c (image_row false (Vhd first) 16)) (disks c)
-  unfolding shape numbers by_rows
+  unfolding shape numbers by_rows logs logs_in
   rows_left = refl
 
   no_row : shape_row c (record_row (numbers 0 16)) ≡ None

@@ -1,6 +1,6 @@
 -- What an opening makes of the worked contents.
-use Rattle.std.proofs.Common.{◌≡◌, ℕ, Bool, true, false, List, [], ◌∷◌, map, Option, Some, None, refl, sym, ap, ap₂, ◌∙◌}
-use Rattle.std.specs.List.{find, filter_map, sum, cons_option}
+use Rattle.std.proofs.Common.{◌≡◌, ℕ, Bool, true, false, is_some, List, [], ◌∷◌, map, Option, Some, None, refl, sym, ap, ap₂, ◌∙◌}
+use Rattle.std.specs.List.{filter, find, filter_map, sum, cons_option}
 use Rattle.sm_base.specs.declared.names.Name.{Name}
 use Rattle.sm_base.specs.declared.names.Name.TheVariants.{Mgt, Vhd, Old, Clone, Leaf}
 use Rattle.sm_machine.specs.Operations.{Idle}
@@ -14,6 +14,7 @@ use Rattle.sm_standing.specs.Entries.{image_with}
 use Rattle.examples_standing.specs.SmallContents.{record_row}
 use Rattle.sm_standing.specs.Images.{Image, image_of}
 use Rattle.examples_moments.specs.ByParts.{Part, Work, begun, repaired, new_removed, extents_besides, in_name_order, row_of_part, opened_by_parts}
+use Rattle.sm_standing.specs.Logs.{log_named, logs, logs_in}
 use Rattle.sm_standing.specs.Shapes.{disk_record, image_row, shape, row_of as shape_row}
 use Rattle.sm_standing.specs.Standing.{standing_volume, disks, disk_at, uuids, with_uuid, in_order}
 use Rattle.sm_standing.specs.Forks.{IsForking}
@@ -40,13 +41,20 @@ made_from w ds = record {
   others = sum (map extents_besides w.parts);
   records = map disk_record ds;
   images = in_name_order (filter_map row_of_part w.parts);
+  logs = [];
   attached = [];
   op = Idle;
 }
 
-pub opened_made : (t : VolumeTable) (area : ℕ → List ℕ) → opened_by_parts (content_with t area) ≡ made_from (repaired t (begun (content_with t area))) (disks (content_with t area))
-unfolding opened_by_parts made_from
-opened_made t area = refl
+-- no volume of a table is a log's
+abbrev pub HasNoLog : VolumeTable → (ℕ → List ℕ) → Type 0
+HasNoLog t area = filter_map (λ r. log_named (content_with t area) r.name) t.volumes ≡ []
+
+pub opened_made : (t : VolumeTable) (area : ℕ → List ℕ) → HasNoLog t area
+    → opened_by_parts (content_with t area) ≡ made_from (repaired t (begun (content_with t area))) (disks (content_with t area))
+unfolding opened_by_parts made_from logs logs_in
+opened_made t area none = let c = content_with t area in
+    ap (λ ls. record (made_from (repaired t (begun c)) (disks c)) { logs = filter (λ l. is_some (standing_volume t l.disk)) ls }) none
 
 abbrev pub volume : Name → Bool → Bool → Option Image → Part
 volume n hidden fresh image = record { name = n; hidden = hidden; fresh = fresh; extents = 5; image = image }
@@ -75,12 +83,13 @@ shape_of a b ds = record {
   others = sum (elim a [ None ↦ 16 | Some i ↦ 0 ] ∷ elim b [ None ↦ 5 | Some i ↦ 0 ] ∷ []);
   records = map disk_record ds;
   images = cons_option a (cons_option b []);
+  logs = [];
   attached = [];
   op = Idle;
 }
 
 shape_is : shape unforked ≡ shape_of (shape_row unforked (record_row (numbers 0 16))) (shape_row unforked (worked_row false (Vhd first) 16)) (disks unforked)
-unfolding shape numbers shape_of
+unfolding shape numbers shape_of logs logs_in
 shape_is = refl
 
 no_row : shape_row unforked (record_row (numbers 0 16)) ≡ None
@@ -104,10 +113,10 @@ abbrev one_left : ℕ → Image → Work
 one_left sequence i = record { sequence = sequence; parts = records_part ∷ volume (Vhd first) false false (Some i) ∷ [] }
 
 -- an opening of a table on an area whose parts these are, which leaves one image
-opened_one : (t : VolumeTable) (area : ℕ → List ℕ) (w : Work) (sequence : ℕ) (i : Image) (sectors : List (List ℕ)) → begun (content_with t area) ≡ w → repaired t w ≡ one_left sequence i
+opened_one : (t : VolumeTable) (area : ℕ → List ℕ) (w : Work) (sequence : ℕ) (i : Image) (sectors : List (List ℕ)) → HasNoLog t area → begun (content_with t area) ≡ w → repaired t w ≡ one_left sequence i
     → disks (content_with t area) ≡ disk_of first_record sectors ∷ [] → opened_by_parts (content_with t area) ≡ one_disk_shape sequence i
-opened_one t area w sequence i sectors begins leaves shows =
-    opened_made t area
+opened_one t area w sequence i sectors none begins leaves shows =
+    opened_made t area none
     ∙ ap (λ v. made_from (repaired t v) (disks (content_with t area))) begins
     ∙ ap (λ v. made_from v (disks (content_with t area))) leaves
     ∙ left_shape sequence i (disks (content_with t area)) sectors shows
@@ -126,12 +135,12 @@ fork_entry = entry_part (Clone first base second)
 
 -- a moment of the fork whose disk's image lies in m; its table is written out
 undone : (s t : VolumeTable) (rs : List Record) (m : Name) (parts : Option Image → Work) (sequence : ℕ) → s ≡ t
-    → IsForking unforked (content_with s (fork_area rs)) first base second (Vhd first) m
+    → IsForking unforked (content_with s (fork_area rs)) first base second (Vhd first) m → HasNoLog t (fork_area rs)
     → begun (content_with t (fork_area rs)) ≡ parts (image_of (content_with t (fork_area rs)) m)
     → ((i : Image) → repaired t (parts (Some i)) ≡ one_left sequence i) → opened_by_parts (content_with s (fork_area rs)) ≡ one_disk_shape sequence (top 17)
-undone s t rs m parts sequence is forks begins leaves =
+undone s t rs m parts sequence is forks none begins leaves =
     ap (λ l. opened_by_parts (content_with l (fork_area rs))) is
-    ∙ opened_one t (fork_area rs) (parts (Some (top 17))) sequence (top 17) (written 17)
+    ∙ opened_one t (fork_area rs) (parts (Some (top 17))) sequence (top 17) (written 17) none
     (begins ∙ ap parts (sym (ap (λ l. image_of (content_with l (fork_area rs)) m) is) ∙ forks.image ∙ unforked_image)) (leaves (top 17))
     (sym (ap (λ l. disks (content_with l (fork_area rs))) is)
     ∙ forking unforked (content_with s (fork_area rs)) first base second (Vhd first) m (top 17) forkable forks
@@ -151,7 +160,7 @@ unfolding new_removed row_of name_eq image_with
 repaired_1 i = refl
 
 pub opened_1 : opened_by_parts (forking_at 1) ≡ one_disk_shape 6 (top 17)
-opened_1 = undone (fork_after 1) fork_1 (first_record ∷ []) (Vhd first) parts_1 6 is_fork_1 moment_1 begun_1 repaired_1
+opened_1 = undone (fork_after 1) fork_1 (first_record ∷ []) (Vhd first) parts_1 6 is_fork_1 moment_1 refl begun_1 repaired_1
 
 -- it is the base, hidden or not
 abbrev base_parts : ℕ → Bool → Option Image → Work
@@ -167,7 +176,7 @@ unfolding new_removed row_of name_eq image_with
 repaired_2 i = refl
 
 pub opened_2 : opened_by_parts (forking_at 2) ≡ one_disk_shape 8 (top 17)
-opened_2 = undone (fork_after 2) fork_2 (first_record ∷ []) (Vhd base) (base_parts 6 false) 8 is_fork_2 moment_2 begun_2 repaired_2
+opened_2 = undone (fork_after 2) fork_2 (first_record ∷ []) (Vhd base) (base_parts 6 false) 8 is_fork_2 moment_2 refl begun_2 repaired_2
 
 begun_3 : begun (content_with fork_3 early) ≡ base_parts 7 true (image_of (content_with fork_3 early) (Vhd base))
 unfolding image_of numbers
@@ -179,7 +188,7 @@ unfolding new_removed row_of name_eq image_with
 repaired_3 i = refl
 
 pub opened_3 : opened_by_parts (forking_at 3) ≡ one_disk_shape 10 (top 17)
-opened_3 = undone (fork_after 3) fork_3 (first_record ∷ []) (Vhd base) (base_parts 7 true) 10 is_fork_3 moment_3 begun_3 repaired_3
+opened_3 = undone (fork_after 3) fork_3 (first_record ∷ []) (Vhd base) (base_parts 7 true) 10 is_fork_3 moment_3 refl begun_3 repaired_3
 
 -- the disk's new image is there
 abbrev parts_4 : Option Image → Option Image → Work
@@ -197,7 +206,7 @@ repaired_4 o i = refl
 pub opened_4 : opened_by_parts (forking_at 4) ≡ one_disk_shape 12 (top 17)
 opened_4 =
     let o = image_of (content_with fork_4 early) (Vhd first) in
-    undone (fork_after 4) fork_4 (first_record ∷ []) (Vhd base) (parts_4 o) 12 is_fork_4 moment_4 begun_4 (repaired_4 o)
+    undone (fork_after 4) fork_4 (first_record ∷ []) (Vhd base) (parts_4 o) 12 is_fork_4 moment_4 refl begun_4 (repaired_4 o)
 
 -- both new images are there, each of them new or not
 abbrev both_parts : ℕ → Bool → Bool → Option Image → Option Image → Option Image → Work
@@ -218,7 +227,7 @@ pub opened_5 : opened_by_parts (forking_at 5) ≡ one_disk_shape 14 (top 17)
 opened_5 =
     let o = image_of (content_with fork_5 early) (Vhd first) in
     let p = image_of (content_with fork_5 early) (Vhd second) in
-    undone (fork_after 5) fork_5 (first_record ∷ []) (Vhd base) (both_parts 9 true true o p) 14 is_fork_5 moment_5 begun_5 (repaired_5 o p)
+    undone (fork_after 5) fork_5 (first_record ∷ []) (Vhd base) (both_parts 9 true true o p) 14 is_fork_5 moment_5 refl begun_5 (repaired_5 o p)
 
 begun_6 : begun (content_with fork_6 late)
     ≡ both_parts 10 false true (image_of (content_with fork_6 late) (Vhd first)) (image_of (content_with fork_6 late) (Vhd second)) (image_of (content_with fork_6 late) (Vhd base))
@@ -234,7 +243,7 @@ pub opened_6 : opened_by_parts (filled_at 6) ≡ one_disk_shape 15 (top 17)
 opened_6 =
     let o = image_of (content_with fork_6 late) (Vhd first) in
     let p = image_of (content_with fork_6 late) (Vhd second) in
-    undone (fork_after 6) fork_6 (first_record ∷ second_record ∷ []) (Vhd base) (both_parts 10 false true o p) 15 is_fork_6 moment_6 begun_6 (repaired_6 o p)
+    undone (fork_after 6) fork_6 (first_record ∷ second_record ∷ []) (Vhd base) (both_parts 10 false true o p) 15 is_fork_6 moment_6 refl begun_6 (repaired_6 o p)
 
 begun_7 : begun (content_with fork_7 late)
     ≡ both_parts 11 false false (image_of (content_with fork_7 late) (Vhd first)) (image_of (content_with fork_7 late) (Vhd second)) (image_of (content_with fork_7 late) (Vhd base))
@@ -249,7 +258,7 @@ pub opened_7 : opened_by_parts (filled_at 7) ≡ one_disk_shape 16 (top 17)
 opened_7 =
     let o = image_of (content_with fork_7 late) (Vhd first) in
     let p = image_of (content_with fork_7 late) (Vhd second) in
-    undone (fork_after 7) fork_7 (first_record ∷ second_record ∷ []) (Vhd base) (both_parts 11 false false o p) 16 is_fork_7 moment_7 begun_7 (repaired_7 o p)
+    undone (fork_after 7) fork_7 (first_record ∷ second_record ∷ []) (Vhd base) (both_parts 11 false false o p) 16 is_fork_7 moment_7 refl begun_7 (repaired_7 o p)
 
 -- ---- a swap
 
@@ -314,7 +323,7 @@ swap_repaired_1 i = refl
 pub swap_opened_1 : opened_by_parts (swapping_at 1) ≡ one_disk_shape 9 (top 34)
 swap_opened_1 =
     ap (λ t. opened_by_parts (content_with t swap_area)) is_swap_1
-    ∙ opened_one swap_1 swap_area (with_entry 5 (volume (Old first) false false None ∷ volume (Vhd base) true false (Some (top 34)) ∷ leaf_entry ∷ [])) 9 (top 34) (written 34)
+    ∙ opened_one swap_1 swap_area (with_entry 5 (volume (Old first) false false None ∷ volume (Vhd base) true false (Some (top 34)) ∷ leaf_entry ∷ [])) 9 (top 34) (written 34) refl
     (swap_begun_1 ∙ ap (λ o. with_entry 5 (volume (Old first) false false None ∷ volume (Vhd base) true false o ∷ leaf_entry ∷ [])) swap_image_1) (swap_repaired_1 (top 34))
     (sym (ap (λ t. disks (content_with t swap_area)) is_swap_1) ∙ swap_disks_1)
 
@@ -333,7 +342,7 @@ swap_repaired_2 i = refl
 pub swap_opened_2 : opened_by_parts (swapping_at 2) ≡ one_disk_shape 9 (top 34)
 swap_opened_2 =
     ap (λ t. opened_by_parts (content_with t swap_area)) is_swap_2
-    ∙ opened_one swap_2 swap_area (with_entry 6 (volume (Old first) false false None ∷ volume (Vhd first) true false (Some (top 34)) ∷ leaf_entry ∷ [])) 9 (top 34) (written 34)
+    ∙ opened_one swap_2 swap_area (with_entry 6 (volume (Old first) false false None ∷ volume (Vhd first) true false (Some (top 34)) ∷ leaf_entry ∷ [])) 9 (top 34) (written 34) refl
     (swap_begun_2 ∙ ap (λ o. with_entry 6 (volume (Old first) false false None ∷ volume (Vhd first) true false o ∷ leaf_entry ∷ [])) swap_image_2) (swap_repaired_2 (top 34))
     (sym (ap (λ t. disks (content_with t swap_area)) is_swap_2) ∙ swap_disks_2)
 
@@ -352,7 +361,7 @@ swap_repaired_3 i = refl
 pub swap_opened_3 : opened_by_parts (swapping_at 3) ≡ one_disk_shape 9 (top 34)
 swap_opened_3 =
     ap (λ t. opened_by_parts (content_with t swap_area)) is_swap_3
-    ∙ opened_one swap_3 swap_area (with_entry 7 (volume (Old first) false false None ∷ volume (Vhd first) false false (Some (top 34)) ∷ leaf_entry ∷ [])) 9 (top 34) (written 34)
+    ∙ opened_one swap_3 swap_area (with_entry 7 (volume (Old first) false false None ∷ volume (Vhd first) false false (Some (top 34)) ∷ leaf_entry ∷ [])) 9 (top 34) (written 34) refl
     (swap_begun_3 ∙ ap (λ o. with_entry 7 (volume (Old first) false false None ∷ volume (Vhd first) false false o ∷ leaf_entry ∷ [])) swap_image_3) (swap_repaired_3 (top 34))
     (sym (ap (λ t. disks (content_with t swap_area)) is_swap_3) ∙ swap_disks_3)
 
@@ -371,7 +380,7 @@ swap_repaired_4 i = refl
 pub swap_opened_4 : opened_by_parts (swapping_at 4) ≡ one_disk_shape 9 (top 34)
 swap_opened_4 =
     ap (λ t. opened_by_parts (content_with t swap_area)) is_swap_4
-    ∙ opened_one swap_4 swap_area (with_entry 8 (volume (Vhd first) false false (Some (top 34)) ∷ leaf_entry ∷ [])) 9 (top 34) (written 34)
+    ∙ opened_one swap_4 swap_area (with_entry 8 (volume (Vhd first) false false (Some (top 34)) ∷ leaf_entry ∷ [])) 9 (top 34) (written 34) refl
     (swap_begun_4 ∙ ap (λ o. with_entry 8 (volume (Vhd first) false false o ∷ leaf_entry ∷ [])) swap_image_4) (swap_repaired_4 (top 34))
     (sym (ap (λ t. disks (content_with t swap_area)) is_swap_4) ∙ swap_disks_4)
 
@@ -390,6 +399,6 @@ swap_repaired_5 i = refl
 pub swap_opened_5 : opened_by_parts (swapping_at 5) ≡ one_disk_shape 9 (top 34)
 swap_opened_5 =
     ap (λ t. opened_by_parts (content_with t swap_area)) is_swap_5
-    ∙ opened_one swap_5 swap_area (with_entry 9 (volume (Vhd first) false false (Some (top 34)) ∷ [])) 9 (top 34) (written 34)
+    ∙ opened_one swap_5 swap_area (with_entry 9 (volume (Vhd first) false false (Some (top 34)) ∷ [])) 9 (top 34) (written 34) refl
     (swap_begun_5 ∙ ap (λ o. with_entry 9 (volume (Vhd first) false false o ∷ [])) swap_image_5) (swap_repaired_5 (top 34))
     (sym (ap (λ t. disks (content_with t swap_area)) is_swap_5) ∙ swap_disks_5)

@@ -13,6 +13,7 @@ use Rattle.examples_standing.specs.SmallContents.{record_row}
 use Rattle.sm_standing.specs.Entries.{image_with}
 use Rattle.sm_standing.specs.Contents.{Content}
 use Rattle.sm_standing.specs.Images.{Image, image_of}
+use Rattle.sm_standing.specs.Logs.{logs, logs_in}
 use Rattle.sm_standing.specs.Opened.{cleaned, end_changes, ended, linked_up, opened, undo_changes, undone}
 use Rattle.sm_standing.specs.Shapes.{disk_record, image_row as row_as, shape, row_of as shape_row}
 use Rattle.sm_standing.specs.Standing.{disks}
@@ -50,12 +51,13 @@ by_rows a x y z ds = record {
   others = sum (elim a [ None ↦ 16 | Some i ↦ 0 ] ∷ elim x [ None ↦ 5 | Some i ↦ 0 ] ∷ elim y [ None ↦ 5 | Some i ↦ 0 ] ∷ elim z [ None ↦ 5 | Some i ↦ 0 ] ∷ []);
   records = map disk_record ds;
   images = cons_option a (cons_option x (cons_option y (cons_option z [])));
+  logs = [];
   attached = [];
   op = Idle;
 }
 
 rows_are : shape d ≡ by_rows (shape_row d (record_row (numbers 0 16))) (shape_row d (image_row false (Vhd first) 21)) (shape_row d (image_row true (Vhd second) 26)) (shape_row d (image_row true (Vhd base) 16)) (disks d)
-unfolding shape numbers by_rows
+unfolding shape numbers by_rows logs logs_in
 rows_are = refl
 
 no_row : shape_row d (record_row (numbers 0 16)) ≡ None

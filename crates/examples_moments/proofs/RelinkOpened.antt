@@ -97,7 +97,7 @@ begun_linked =
 
 pub relink_opened : opened_by_parts relinking ≡ relinked_shape (disks relinking)
 relink_opened =
-    opened_made relink_table relinking.area
+    opened_made relink_table relinking.area refl
     ∙ ap (λ w. made_from (repaired relink_table w) (disks relinking)) begun_linked
     ∙ ap (λ w. made_from w (disks relinking)) (repaired_relink (empty_over second) (empty_over base) (top 17))
     ∙ left_relink (disks relinking)

@@ -22,6 +22,7 @@ use Rattle.sm_standing.specs.Contents.{Content}
 use Rattle.sm_standing.specs.Entries.{folding, making, head, image_with, is_leaf_renamed, is_leaf_swapped}
 use Rattle.sm_standing.specs.Images.{Image, image_of}
 use Rattle.sm_standing.specs.Opened.{parent_name, under_name}
+use Rattle.sm_standing.specs.Logs.{logs}
 use Rattle.sm_standing.specs.Shapes.{disk_record}
 use Rattle.sm_standing.specs.Standing.{disks}
 
@@ -157,6 +158,7 @@ opened_by_parts c =
       others = sum (map extents_besides w.parts);
       records = map disk_record (disks c);
       images = in_name_order (filter_map row_of_part w.parts);
+      logs = logs c;
       attached = [];
       op = Idle;
     }

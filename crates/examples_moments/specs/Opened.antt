@@ -21,6 +21,7 @@ one_disk_shape sequence i = record {
   others = 16;
   records = record { uuid = first_record.uuid; label = first_record.label; origin = first_record.origin; read_only = first_record.read_only } ∷ [];
   images = record { name = Vhd first; hidden = false; parent = i.parent; size = i.size; slots = i.slots; extents = 5 } ∷ [];
+  logs = [];
   attached = [];
   op = Idle;
 }
@@ -43,6 +44,7 @@ relinked_shape ds = record {
       ∷ worked_row (Vhd second) true (Some (Vhd base)) (empty_over base)
       ∷ worked_row (Vhd base) true None (top 17)
       ∷ [];
+  logs = [];
   attached = [];
   op = Idle;
 }

@@ -4,6 +4,7 @@ use Rattle.std.proofs.lemmas.Option.{none-some}
 use Rattle.sm_base.specs.Names.{name_cmp, spelling, uuid_text, base_uuid}
 use Rattle.sm_base.specs.Numbers.{first as first_sector, div_up}
 use Rattle.sm_base.specs.declared.names.Name.{Name}
+use Rattle.sm_log.specs.Logs.{log_extents}
 use Rattle.sm_machine.specs.Operations.{Op, Idle}
 use Rattle.sm_base.specs.declared.names.Name.TheVariants.{Vhd}
 use Rattle.uuid.specs.Text.{by_index}
@@ -43,7 +44,7 @@ module _ (operation : Op) (slots : List (Option ℕ)) (n : ℕ) where
   images = shape.images
 
   pub chain_has_shape : (t : VolumeTable) → t.sequence ≡ 4 → shape_in site t (chain_known operation slots n) ≡ shape
-  unfolding shape_in records_in with_record insert_by record_extents div_up image_uuid
+  unfolding shape_in records_in with_record insert_by record_extents div_up image_uuid log_extents
   chain_has_shape t is = ap (λ k. record shape { sequence = k }) is
 
   images_right : length slots ≡ 64 → 0 < n → (i : ImageRow) → In i images → IsImageRow shape i

@@ -1,12 +1,17 @@
 -- A disk over a hidden image over a hidden base is ready, at rest, under a copy or a link: the base holds what the hidden image
 -- holds.
-use Rattle.std.proofs.Common.{◌≡◌, ◌≢◌, ℕ, ◌+◌, ◌*◌, ◌≤◌, true, List, [], ◌∷◌, get_or, Option, Some, refl, sym, ap, ◌∙◌, arith}
+use Rattle.std.proofs.Common.{◌≡◌, ◌≢◌, ℕ, ◌+◌, ◌*◌, ◌≤◌, true, false, cond, List, [], ◌∷◌, get_or, Option, Some, None, refl, sym, ap, ◌∙◌, arith}
 use Rattle.std.proofs.lemmas.Option.{same_Some}
+use Rattle.sm_base.specs.Kinds.{is_entry}
 use Rattle.sm_base.specs.declared.names.Name.{Name}
+use Rattle.sm_ready.proofs.LogLaws.{logged_none}
+use Rattle.sm_ready.proofs.LogRows.{entry_apart}
+use Rattle.sm_ready.specs.Known.{row_face}
+use Rattle.vg_meta.proofs.NameLaws.{name_eq-other}
 use Rattle.sm_machine.specs.Operations.{Op}
 use Rattle.vg_meta.specs.Tables.{VolumeTable}
 use Rattle.examples_moments.proofs.WorkedDisks.{filled_held, top_held}
-use Rattle.sm_base.specs.declared.names.Name.TheVariants.{Mgt, Vhd, Coalesce, Relink}
+use Rattle.sm_base.specs.declared.names.Name.TheVariants.{Cbt, Mgt, Vhd, Coalesce, Relink}
 use Rattle.sm_disk.specs.Held.{Held}
 use Rattle.sm_ready.specs.Done.{at_rest}
 use Rattle.sm_mgt.specs.Places.{records_held}
@@ -88,12 +93,19 @@ module _ (entry : Name) (none : making (chain_table entry) ≡ []) (byte : ℕ) 
     below = below;
   }
 
-  pub ready_where : (operation : Op) → IsBelow (content_now site t held_area) operation → IsReady site t held_area (chain_known operation first_slot 5)
+  no_log : is_entry entry ≡ true → (u : List ℕ) → rows t (Cbt u) ≡ None
   unfolding row_of name_eq
-  ready_where operation below = record {
+  no_log is u =
+      ap (λ b. cond b (Some (record { name = entry; hidden = false; fresh = false; extents = [] })) None) (name_eq-other entry (Cbt u) (λ same. entry_apart entry is u (sym same)))
+
+  pub ready_where : is_entry entry ≡ true → (operation : Op) → IsBelow (content_now site t held_area) operation → IsReady site t held_area (chain_known operation first_slot 5)
+  unfolding row_of name_eq
+  ready_where is operation below = record {
     firm = firm_where operation below;
     records = records_agree t held_area recorded 511 refl refl refl (first_right, tt) (λ k low. area_records below_image disk_image between_image recorded k low);
     recorded = quiet_settled (records_held site t held_area) (rest_settled (extents_of (rows t Mgt)) (chain_image byte));
+    logs = logged_none site t held_area (λ u. ap row_face (no_log is u));
+    logged = λ u. quiet_settled (volume_of site t held_area (Cbt u)) (rest_settled (extents_of (rows t (Cbt u))) (chain_image byte));
   }
 
   -- the images of the hidden volumes
@@ -132,10 +144,10 @@ held_below entry cursor none = record {
 -- ---- a copy, and a link after it
 
 pub copy_ready : IsReady site copy_table chain_area copy_known
-copy_ready = ready_where (Coalesce second base) refl 34 copy (held_below (Coalesce second base) 1 refl)
+copy_ready = ready_where (Coalesce second base) refl 34 refl copy (held_below (Coalesce second base) 1 refl)
 
 pub link_ready : IsReady site link_table chain_area link_known
-link_ready = ready_where (Relink second base) refl 34 link (held_below (Relink second base) 64 refl)
+link_ready = ready_where (Relink second base) refl 34 refl link (held_below (Relink second base) 64 refl)
 
 pub chain_tidy : (entry : Name) (operation : Op) → IsTidy (chain_table entry) (chain_known operation first_slot 5)
 unfolding image_uuid

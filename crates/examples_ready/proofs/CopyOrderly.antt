@@ -15,6 +15,7 @@ use Rattle.sm_machine.specs.Shapes.{ImageRow, count_blocks, image_uuid, is_vhd, 
 use Rattle.sm_machine.specs.Collector.{count_either}
 use Rattle.sm_machine.specs.WellFormed.{IsWellFormed, IsOperation}
 use Rattle.vhd_chain.specs.Trees.{tree_row}
+use Rattle.sm_logs.proofs.OrderLaws.{rising_first}
 use Rattle.sm_ready.specs.Known.{row_face, tree_face, shape_in}
 use Rattle.sm_ready.specs.Orderly.{IsOrderly}
 use Rattle.examples_moments.specs.Worked.{first, second, base}
@@ -101,6 +102,10 @@ copy_orderly = record {
   few = lit≤ tt;
   new_named = λ r here new. absurd (let e = sym (none_new (Coalesce second base) r here) ∙ new in (let x = e in cc));
   images = copy_faces;
+  logs = λ u. refl;
+  few_logs = lit≤ tt;
+  logs_in_order = rising_first;
+  log_room = λ l i. absurd i;
   places = refl;
   entries = refl;
   stands = chain_stands first_slot 5 refl (front_within (Some 0 ∷ []) 63 (lit≤ tt)) one_room (lit< tt);

@@ -172,6 +172,10 @@ crowd_only h = let o = orderly_with 1024 first_slot (codes "b") (lit≤ tt) refl
   few = h;
   new_named = crowd_named;
   images = crowd_faces;
+  logs = λ u. news_none 256 499 (Cbt u);
+  few_logs = o.few_logs;
+  logs_in_order = o.logs_in_order;
+  log_room = o.log_room;
   places = o.places;
   entries = no_entries;
   stands = o.stands;

@@ -18,3 +18,4 @@ pub mod MemoryFails
 pub mod SectorFails
 pub mod RoomFails
 pub mod CrowdFails
+pub mod LogFails

@@ -1,5 +1,5 @@
 -- Table and memory are orderly while the leaf of an attached disk is folded, and block 0 may be dirty.
-use Rattle.std.proofs.Common.{◌≡◌, inl, inr, ℕ, ◌*◌, ◌<◌, ◌≤◌, ◌^◌, ◌++◌, ◌||◌, max, Bool, true, false, cond, List, [], ◌∷◌, length, Option, Some, None, refl, sym, ◌∙◌, subst, arith, lit≤, lit<, bytes_eq, unwrap_or}
+use Rattle.std.proofs.Common.{◌≡◌, inl, inr, ℕ, ◌*◌, ◌<◌, ◌≤◌, ◌^◌, ◌++◌, ◌||◌, max, Bool, true, false, cond, List, [], ◌∷◌, length, Some, None, refl, sym, ◌∙◌, subst, arith, lit≤, lit<, bytes_eq, unwrap_or}
 use Rattle.std.proofs.lemmas.Option.{none-some}
 use Rattle.std.specs.List.Sorted.{IsStrictlySortedBy}
 use Rattle.sm_base.specs.Kinds.{is_image}
@@ -12,6 +12,7 @@ use Rattle.common_laws.specs.Lists.{In, numbers, insert_by}
 use Rattle.vg_meta.specs.Tables.{IsTable, Row, rows, row_of, name_eq}
 use Rattle.vg_layout.specs.Places.{record_extents}
 use Rattle.sm_refs.specs.Attached.{count_of, same_name}
+use Rattle.sm_log.specs.Logs.{log_extents}
 use Rattle.sm_machine.specs.Collector.{count_either}
 use Rattle.sm_machine.specs.Shapes.{ImageRow, DiskRecord, chain, chain_limit, count_blocks, image_extents, image_uuid, is_there, is_vhd, refs, same_image, slot_at, thick_in, thin_in, top}
 use Rattle.sm_machine.specs.Steps.{with_record}
@@ -19,6 +20,7 @@ use Rattle.sm_machine.specs.WellFormed.{IsWellFormed, IsImageRow, IsLive, IsOnly
 use Rattle.vhd_chain.specs.Trees.{tree_row}
 use Rattle.vhd_chain.specs.declared.rows.TreeRow.{TreeRow}
 use Rattle.vhd_image.specs.Bodies.{StandsIn}
+use Rattle.sm_logs.proofs.OrderLaws.{rising_first}
 use Rattle.sm_ready.specs.Known.{row_face, tree_face, shape_in, records_in}
 use Rattle.sm_ready.specs.Orderly.{IsOrderly}
 use Rattle.examples_moments.specs.Worked.{first, base, leaf_copied}
@@ -65,7 +67,7 @@ module _ (dirty : List ℕ) where
   live_faces (Leaf a b) h = absurd (let e = h in cc)
 
   pub live_has_shape : shape_in site leaf_copied (live_known dirty) ≡ live_shape dirty
-  unfolding shape_in records_in with_record insert_by record_extents div_up image_uuid
+  unfolding shape_in records_in with_record insert_by record_extents div_up image_uuid log_extents
   live_has_shape = refl
 
   abbrev images : List ImageRow
@@ -196,6 +198,10 @@ module _ (dirty : List ℕ) where
       few = lit≤ tt;
       new_named = λ r here new. absurd (let e = sym (none_new r here) ∙ new in (let x = e in cc));
       images = live_faces;
+      logs = λ u. refl;
+      few_logs = lit≤ tt;
+      logs_in_order = rising_first;
+      log_room = λ l i. absurd i;
       places = refl;
       entries = refl;
       stands = stand_right;

@@ -1,9 +1,9 @@
 -- While the leaf of an attached disk is folded the store is ready where a block that the guest wrote behind the cursor is dirty, and is not
 -- where it is left out of the dirty ones.
-use Rattle.std.proofs.Common.{◌≡◌, ℕ, ◌+◌, ◌*◌, ◌/◌, ◌<◌, true, false, List, [], ◌∷◌, get_or, Option, Some, refl, sym, ap, ◌∙◌, arith, lit<}
+use Rattle.std.proofs.Common.{◌≡◌, ℕ, ◌+◌, ◌*◌, ◌/◌, true, false, List, [], ◌∷◌, get_or, Some, refl, sym, ap, ◌∙◌, arith, lit<}
 use Rattle.std.proofs.lemmas.Bool.{true≢false}
 use Rattle.std.proofs.lemmas.Option.{same_Some}
-use Rattle.sm_base.specs.declared.names.Name.TheVariants.{Mgt, Vhd}
+use Rattle.sm_base.specs.declared.names.Name.TheVariants.{Cbt, Mgt, Vhd}
 use Rattle.sm_mgt.specs.Places.{records_held}
 use Rattle.sm_record.specs.declared.records.Record.{Record}
 use Rattle.vg_meta.specs.Tables.{rows, row_of, name_eq, extents_of}
@@ -12,6 +12,7 @@ use Rattle.vhd_chain.specs.Trees.{row_name}
 use Rattle.vhd_image.specs.Steady.{IsSteady}
 use Rattle.vhd_layout.specs.Layouts.{Sectors}
 use Rattle.vhd_volumes.proofs.SteadyLaws.{quiet_settled}
+use Rattle.sm_ready.proofs.LogLaws.{logged_none}
 use Rattle.sm_machine.specs.Operations.{is_dirty}
 use Rattle.sm_machine.specs.Shapes.{image_uuid}
 use Rattle.sm_standing.specs.Images.{image_of}
@@ -30,7 +31,7 @@ use Rattle.examples_ready.specs.WorkedRows.{sizes, site, top_head, head_over, fi
 use Rattle.examples_ready.specs.Repositories.{live, live_known, live_area}
 use Rattle.examples_ready.proofs.LiveOrderly.{none_new}
 use Rattle.examples_ready.proofs.RecordSteps.{records_agree, no_stray_in}
-use Rattle.examples_ready.proofs.SteadySteps.{HoldsImage, rest_settled, steady, top_here, top_holds, filled_here, filled_holds, volume_holds}
+use Rattle.examples_ready.proofs.SteadySteps.{HoldsImage, rest_settled, steady, top_here, top_holds, filled_here, filled_holds, volume_holds, none_settled}
 use Rattle.examples_ready.proofs.TableSteps.{each}
 
 abbrev below_image : Sectors
@@ -69,6 +70,8 @@ module _ (dirty : List ℕ) where
     firm = firm_where below;
     records = records_agree leaf_copied live_area recorded 511 refl refl refl (first_right, tt) (λ k low. area_records below_image disk_image empty recorded k low);
     recorded = quiet_settled (records_held site leaf_copied live_area) (rest_settled (extents_of (rows leaf_copied Mgt)) (area_of below_image disk_image empty recorded));
+    logs = logged_none site leaf_copied live_area (λ u. refl);
+    logged = λ u. quiet_settled (volume_of site leaf_copied live_area (Cbt u)) (none_settled live_area);
   }
 
   pub live_tidy : IsTidy leaf_copied (live_known dirty)

@@ -1,8 +1,9 @@
 -- Memory that fails one field of an invariant.
-use Rattle.std.proofs.Common.{◌≡◌, inl, inr, ℕ, ◌*◌, ◌≤◌, true, false, List, length, codes, None, refl, sym, ap, ◌∙◌, arith, lit≤, lit<, ◌++◌, bytes_eq}
+use Rattle.std.proofs.Common.{◌≡◌, inl, inr, ℕ, ◌*◌, ◌≤◌, true, false, List, length, codes, None, refl, sym, ap, ◌∙◌, arith, lit≤, lit<, ◌++◌, bytes_eq, [], ◌∷◌}
 use Rattle.std.proofs.Math.Logic.{∥∥₁_elim}
 use Rattle.std.proofs.Props.{props}
 use Rattle.std.proofs.lemmas.Bool.{true≢false}
+use Rattle.std.proofs.lemmas.Option.{none-some}
 use Rattle.common_laws.specs.Lists.{In, insert_by, numbers}
 use Rattle.sm_base.specs.Limits.{extent_limit}
 use Rattle.sm_base.specs.Kinds.{is_entry}
@@ -13,9 +14,10 @@ use Rattle.sm_base.specs.Numbers.{first as first_sector, div_up}
 use Rattle.sm_base.specs.declared.names.Name.{Name}
 use Rattle.sm_base.specs.declared.names.Name.TheVariants.{Mgt, Raw, Vhd, Old, Cbt, Clone, Inflate, Coalesce, Relink, Leaf}
 use Rattle.sm_base.specs.Kinds.{is_image}
-use Rattle.sm_machine.specs.Shapes.{DiskRecord, chain, image_uuid, refs, same_image}
+use Rattle.sm_log.specs.Logs.{log_extents, log_of}
+use Rattle.sm_machine.specs.Shapes.{DiskRecord, chain, image_extents, image_uuid, refs, same_image}
 use Rattle.sm_machine.specs.Steps.{with_record}
-use Rattle.sm_machine.specs.WellFormed.{IsWellFormed}
+use Rattle.sm_machine.specs.WellFormed.{IsWellFormed, table_length}
 use Rattle.sm_mgt.specs.Places.{place_count}
 use Rattle.sm_refs.specs.Attached.{count_of}
 use Rattle.sm_standing.specs.Entries.{names_in}
@@ -24,16 +26,16 @@ use Rattle.vg_meta.specs.Tables.{IsTable, Row, rows, row_of, name_eq}
 use Rattle.vhd_chain.specs.Trees.{tree_row}
 use Rattle.vhd_chain.specs.declared.rows.TreeRow.{TreeRow}
 use Rattle.vhd_image.specs.Bodies.{StandsIn}
-use Rattle.sm_ready.specs.Known.{row_face, tree_face, entry_of, shape_in, records_in}
-use Rattle.sm_ready.specs.Orderly.{IsOrderly}
+use Rattle.sm_ready.specs.Known.{row_face, tree_face, log_face, entry_of, shape_in, records_in}
+use Rattle.sm_ready.specs.Orderly.{HasLogRoom, IsOrderly}
 use Rattle.sm_ready.specs.Ready.{IsTidy, HasNoStray}
 use Rattle.examples_moments.specs.Worked.{first, second, base}
-use Rattle.examples_ready.specs.FailingMemory.{short_known, high_slots, high_known, unrecorded_known, uncounted_known, stray_known, third_record}
+use Rattle.examples_ready.specs.FailingMemory.{short_known, high_slots, high_known, unrecorded_known, uncounted_known, stray_known, third_record, first_log, tracked_known}
 use Rattle.examples_ready.specs.FailingTables.{entryless_table}
 use Rattle.examples_ready.specs.Repositories.{plain_table, plain_known, copy_known}
 use Rattle.examples_ready.specs.WorkedRows.{site, sizes, site_of, first_slot}
 use Rattle.examples_ready.proofs.CopyOrderly.{copy_orderly}
-use Rattle.examples_ready.proofs.PlainOrderly.{orderly_with, plain_orderly, written_orderly, none_new, first_stands}
+use Rattle.examples_ready.proofs.PlainOrderly.{orderly_with, plain_orderly, plain_well_formed, written_orderly, none_new, first_stands}
 use Rattle.examples_ready.proofs.ShapeSteps.{differ}
 use Rattle.examples_ready.proofs.TableSteps.{each, below_by, distinct_by, first_uuid, second_uuid, base_uuid_right, face_step}
 
@@ -53,6 +55,10 @@ short_only h = let o = plain_orderly in record {
   few = o.few;
   new_named = o.new_named;
   images = o.images;
+  logs = o.logs;
+  few_logs = o.few_logs;
+  logs_in_order = o.logs_in_order;
+  log_room = o.log_room;
   places = h;
   entries = o.entries;
   stands = o.stands;
@@ -106,6 +112,10 @@ entryless_only h = let o = copy_orderly in record {
   few = lit≤ tt;
   new_named = λ r here new. absurd (let e = sym (entryless_old r here) ∙ new in (let x = e in cc));
   images = entryless_faces;
+  logs = o.logs;
+  few_logs = o.few_logs;
+  logs_in_order = o.logs_in_order;
+  log_room = o.log_room;
   places = o.places;
   entries = h;
   stands = o.stands;
@@ -137,6 +147,10 @@ unrecorded_only h = let o = plain_orderly in record {
   few = o.few;
   new_named = o.new_named;
   images = o.images;
+  logs = o.logs;
+  few_logs = o.few_logs;
+  logs_in_order = o.logs_in_order;
+  log_room = o.log_room;
   places = refl;
   entries = o.entries;
   stands = o.stands;
@@ -167,6 +181,10 @@ uncounted_only h = let o = written_orderly in record {
   few = o.few;
   new_named = o.new_named;
   images = o.images;
+  logs = o.logs;
+  few_logs = o.few_logs;
+  logs_in_order = o.logs_in_order;
+  log_room = o.log_room;
   places = o.places;
   entries = o.entries;
   stands = o.stands;
@@ -179,6 +197,59 @@ pub uncounted_fails : ¬ ((n : Name) → count_of uncounted_known.attached n ≡
 unfolding refs image_uuid same_image chain shape_in
 uncounted_fails h = let e : 0 ≡ 1 = h (Vhd first) in omega (arith, e)
 
+-- ---- a log of no volume
+
+tracked_well_formed : IsWellFormed (shape_in site plain_table tracked_known)
+unfolding shape_in records_in with_record insert_by record_extents div_up image_uuid log_extents image_extents table_length
+tracked_well_formed = let w = plain_well_formed 64 first_slot (codes "b") (lit≤ tt) refl in record {
+  geometry = w.geometry;
+  blocks = w.blocks;
+  sequence = w.sequence;
+  room = lit≤ tt;
+  few = w.few;
+  images_in_order = w.images_in_order;
+  one_image = w.one_image;
+  images = λ i here. let r = w.images i here in record { named = r.named; whole = r.whole; volume = r.volume; table = r.table; raw = r.raw };
+  parents = w.parents;
+  chains = w.chains;
+  bases = w.bases;
+  records_in_order = w.records_in_order;
+  one_record = w.one_record;
+  disks = w.disks;
+  visible = w.visible;
+  attachments = record { once = tt; disks = λ a k. absurd k; writable = λ a r k q l f. absurd k; thick = λ a i k q l f j v. absurd k };
+  operation = tt;
+}
+
+one_room : HasLogRoom 32 first_log
+unfolding div_up
+one_room = lit≤ tt
+
+pub tracked_only : ((u : List ℕ) → row_face (rows plain_table (Cbt u)) ≡ log_face (log_of u tracked_known.logs)) → IsOrderly site plain_table tracked_known
+unfolding shape_in refs IsStrictlySortedBy
+tracked_only h = let o = plain_orderly in record {
+  table = o.table;
+  few_extents = o.few_extents;
+  record_volume = o.record_volume;
+  few = o.few;
+  new_named = o.new_named;
+  images = o.images;
+  logs = h;
+  few_logs = lit≤ tt;
+  logs_in_order = (tt, tt);
+  log_room = λ l here. each (HasLogRoom 32) (first_log ∷ []) (one_room, tt) l here;
+  places = o.places;
+  entries = o.entries;
+  stands = o.stands;
+  well_formed = ∣ tracked_well_formed ∣₁;
+  roomy = tt;
+  counts = λ n. refl;
+}
+
+pub tracked_fails : ¬ ((u : List ℕ) → row_face (rows plain_table (Cbt u)) ≡ log_face (log_of u tracked_known.logs))
+unfolding row_of name_eq
+tracked_fails h = none-some (record { hidden = false; extents = 1 }) (h first)
+
 -- ---- a record of no image
 
 pub stray_orderly : IsOrderly site plain_table stray_known
@@ -190,6 +261,10 @@ stray_orderly = let o = plain_orderly in record {
   few = o.few;
   new_named = o.new_named;
   images = o.images;
+  logs = o.logs;
+  few_logs = o.few_logs;
+  logs_in_order = o.logs_in_order;
+  log_room = o.log_room;
   places = refl;
   entries = o.entries;
   stands = o.stands;

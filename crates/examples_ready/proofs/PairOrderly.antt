@@ -11,12 +11,14 @@ use Rattle.uuid.specs.Text.{by_index}
 use Rattle.common_laws.specs.Lists.{In, numbers, insert_by}
 use Rattle.vg_meta.specs.Tables.{IsTable, Row, rows, row_of, name_eq}
 use Rattle.vg_layout.specs.Places.{record_extents}
+use Rattle.sm_log.specs.Logs.{log_extents}
 use Rattle.sm_machine.specs.Shapes.{ImageRow, DiskRecord, chain_limit, image_uuid, is_vhd, image_extents, same_image, refs}
 use Rattle.sm_machine.specs.Steps.{with_record}
 use Rattle.sm_machine.specs.WellFormed.{IsWellFormed, IsImageRow, HasParent, HasImage, HasRecord, EndsWithin, is_image_name, table_length, name_le, uuid_le}
 use Rattle.vhd_chain.specs.Trees.{tree_row}
 use Rattle.vhd_chain.specs.declared.rows.TreeRow.{TreeRow}
 use Rattle.vhd_image.specs.Bodies.{StandsIn}
+use Rattle.sm_logs.proofs.OrderLaws.{rising_first}
 use Rattle.sm_ready.specs.Known.{row_face, tree_face, shape_in, records_in}
 use Rattle.sm_ready.specs.Orderly.{IsOrderly}
 use Rattle.examples_moments.specs.Worked.{first, second, base}
@@ -62,7 +64,7 @@ none_new = each (λ r. r.fresh ≡ false) pair_table.volumes (refl, (refl, (refl
 -- ---- the shape
 
 pub pair_has_shape : shape_in site pair_table pair_known ≡ pair_shape
-unfolding shape_in records_in with_record insert_by record_extents div_up image_uuid
+unfolding shape_in records_in with_record insert_by record_extents div_up image_uuid log_extents
 pair_has_shape = refl
 
 abbrev images : List ImageRow
@@ -146,6 +148,10 @@ pair_orderly = record {
   few = lit≤ tt;
   new_named = λ r here new. absurd (let e = sym (none_new r here) ∙ new in (let x = e in cc));
   images = pair_faces;
+  logs = λ u. refl;
+  few_logs = lit≤ tt;
+  logs_in_order = rising_first;
+  log_room = λ l i. absurd i;
   places = refl;
   entries = refl;
   stands = stand_right;

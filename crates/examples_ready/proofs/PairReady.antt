@@ -1,6 +1,6 @@
 -- A disk and its snapshot are ready.
 use Rattle.std.proofs.Common.{◌+◌, ◌*◌, List, [], ◌∷◌, refl}
-use Rattle.sm_base.specs.declared.names.Name.TheVariants.{Mgt, Vhd}
+use Rattle.sm_base.specs.declared.names.Name.TheVariants.{Cbt, Mgt, Vhd}
 use Rattle.sm_mgt.specs.Places.{records_held}
 use Rattle.sm_record.specs.declared.records.Record.{Record}
 use Rattle.vg_meta.specs.Tables.{rows, row_of, name_eq, extents_of}
@@ -9,6 +9,7 @@ use Rattle.vhd_chain.specs.Trees.{row_name}
 use Rattle.vhd_image.specs.Steady.{IsSteady}
 use Rattle.vhd_layout.specs.Layouts.{Sectors}
 use Rattle.vhd_volumes.proofs.SteadyLaws.{quiet_settled}
+use Rattle.sm_ready.proofs.LogLaws.{logged_none}
 use Rattle.sm_machine.specs.Shapes.{image_uuid}
 use Rattle.sm_ready.specs.Ready.{IsFirm, IsReady, IsTidy}
 use Rattle.examples_moments.specs.Worked.{first, second, base, first_record, second_record, area_of}
@@ -19,7 +20,7 @@ use Rattle.examples_ready.specs.WorkedRows.{sizes, site, top_head, head_over, fi
 use Rattle.examples_ready.specs.Repositories.{pair_table, pair_known, pair_area}
 use Rattle.examples_ready.proofs.PairOrderly.{none_new}
 use Rattle.examples_ready.proofs.RecordSteps.{records_agree, no_stray_in}
-use Rattle.examples_ready.proofs.SteadySteps.{HoldsImage, rest_settled, steady, top_here, top_holds, filled_here, filled_holds, empty_here, empty_holds, volume_holds}
+use Rattle.examples_ready.proofs.SteadySteps.{HoldsImage, rest_settled, steady, top_here, top_holds, filled_here, filled_holds, empty_here, empty_holds, volume_holds, none_settled}
 use Rattle.examples_ready.proofs.TableSteps.{each}
 
 abbrev below_image : Sectors
@@ -65,6 +66,8 @@ pair_ready = record {
   firm = pair_firm;
   records = records_agree pair_table pair_area recorded 510 refl refl refl (first_right, (second_right, tt)) (λ k below. area_records below_image disk_image snapshot_image recorded k below);
   recorded = quiet_settled (records_held site pair_table pair_area) (rest_settled (extents_of (rows pair_table Mgt)) (area_of below_image disk_image snapshot_image recorded));
+  logs = logged_none site pair_table pair_area (λ u. refl);
+  logged = λ u. quiet_settled (volume_of site pair_table pair_area (Cbt u)) (none_settled pair_area);
 }
 
 pub pair_tidy : IsTidy pair_table pair_known

@@ -13,6 +13,7 @@ use Rattle.uuid.specs.Text.{by_index}
 use Rattle.common_laws.specs.Lists.{In, numbers, insert_by}
 use Rattle.vg_meta.specs.Tables.{IsTable, Row, rows, row_of, name_eq}
 use Rattle.vg_layout.specs.Places.{record_extents}
+use Rattle.sm_log.specs.Logs.{log_extents}
 use Rattle.sm_machine.specs.Shapes.{Shape, ImageRow, DiskRecord, chain, chain_limit, image_uuid, is_vhd, image_extents, same_image, refs, thick_in}
 use Rattle.sm_machine.specs.Steps.{with_record}
 use Rattle.sm_machine.specs.WellFormed.{IsWellFormed, IsImageRow, HasParent, HasImage, HasRecord, EndsWithin, AreAttachments, is_image_name, table_length, name_le, uuid_le}
@@ -22,6 +23,7 @@ use Rattle.vhd_chain.specs.declared.rows.TreeRow.{TreeRow}
 use Rattle.vhd_image.specs.Bodies.{StandsIn}
 use Rattle.vhd_map.specs.Slots.{top_of}
 use Rattle.vhd_volumes.specs.Truth.{HasRoomFor}
+use Rattle.sm_logs.proofs.OrderLaws.{rising_first}
 use Rattle.sm_ready.specs.Known.{row_face, tree_face, shape_in, records_in}
 use Rattle.sm_ready.specs.Orderly.{IsOrderly}
 use Rattle.examples_moments.specs.Worked.{first, second}
@@ -79,7 +81,7 @@ module _ (count : ℕ) (slots : List (Option ℕ)) (label : List ℕ) where
   shape = shape_of count slots label
 
   pub has_shape : shape_in (site_of count) plain_table (known_with slots label) ≡ shape
-  unfolding shape_in records_in with_record insert_by record_extents div_up image_uuid
+  unfolding shape_in records_in with_record insert_by record_extents div_up image_uuid log_extents
   has_shape = refl
 
   images_right : length slots ≡ 64 → (i : ImageRow) → In i shape.images → IsImageRow shape i
@@ -132,7 +134,7 @@ module _ (count : ℕ) (slots : List (Option ℕ)) (label : List ℕ) where
   }
 
 pub written_has_shape : shape_in site plain_table written_known ≡ written_shape
-unfolding shape_in records_in with_record insert_by record_extents div_up image_uuid
+unfolding shape_in records_in with_record insert_by record_extents div_up image_uuid log_extents
 written_has_shape = refl
 
 attachments_right : AreAttachments written_shape
@@ -196,6 +198,10 @@ orderly_with count slots label many long most stands = record {
   few = lit≤ tt;
   new_named = λ r here new. absurd (let e = sym (none_new r here) ∙ new in (let x = e in cc));
   images = plain_faces slots;
+  logs = λ u. refl;
+  few_logs = lit≤ tt;
+  logs_in_order = rising_first;
+  log_room = λ l i. absurd i;
   places = refl;
   entries = refl;
   stands = stands;
@@ -230,6 +236,10 @@ written_orderly = record {
   few = lit≤ tt;
   new_named = λ r here new. absurd (let e = sym (none_new r here) ∙ new in (let x = e in cc));
   images = plain_faces first_slot;
+  logs = λ u. refl;
+  few_logs = lit≤ tt;
+  logs_in_order = rising_first;
+  log_room = λ l i. absurd i;
   places = refl;
   entries = refl;
   stands = first_stands;

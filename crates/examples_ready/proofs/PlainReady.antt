@@ -2,7 +2,7 @@
 use Rattle.std.proofs.Common.{◌≡◌, ◌≢◌, inl, ℕ, ◌+◌, ◌*◌, ◌<◌, true, false, cond, List, [], ◌∷◌, get_or, refl, sym, ap, ◌∙◌, arith}
 use Rattle.std.proofs.lemmas.Bool.{ne_eqb}
 use Rattle.common_laws.specs.Lists.{In, numbers}
-use Rattle.sm_base.specs.declared.names.Name.TheVariants.{Mgt, Raw, Vhd}
+use Rattle.sm_base.specs.declared.names.Name.TheVariants.{Cbt, Mgt, Raw, Vhd}
 use Rattle.sm_disk.specs.Held.{reads, newest}
 use Rattle.sm_mgt.specs.Places.{records_held}
 use Rattle.sm_record.specs.Records.{IsRecord}
@@ -16,6 +16,7 @@ use Rattle.vhd_volumes.specs.Steady.{IsQuiet}
 use Rattle.vhd_volumes.proofs.SteadyLaws.{quiet_settled}
 use Rattle.sm_ready.specs.Known.{shape_in}
 use Rattle.sm_ready.specs.Ready.{IsFirm, IsReady, IsTidy, is_written_in}
+use Rattle.sm_ready.proofs.LogLaws.{logged_none}
 use Rattle.sm_machine.specs.Shapes.{image_uuid, same_image}
 use Rattle.examples_vhd.specs.SmallImages.{empty}
 use Rattle.examples_moments.specs.Worked.{first, second, first_record}
@@ -26,7 +27,7 @@ use Rattle.examples_ready.specs.WorkedRows.{sizes, site, top_head, first_slot}
 use Rattle.examples_ready.specs.Repositories.{raw_record, plain_table, plain_known, plain_rows, plain_image, plain_area, written_known, written_area}
 use Rattle.examples_ready.proofs.PlainOrderly.{none_new}
 use Rattle.examples_ready.proofs.RecordSteps.{records_agree, no_stray_in}
-use Rattle.examples_ready.proofs.SteadySteps.{HoldsImage, apart_settled, rest_settled, steady, top_here, top_holds, volume_holds}
+use Rattle.examples_ready.proofs.SteadySteps.{HoldsImage, apart_settled, rest_settled, steady, top_here, top_holds, volume_holds, none_settled}
 use Rattle.examples_moments.proofs.PlacedLaws.{spot_numbers}
 use Rattle.examples_ready.proofs.TableSteps.{each, second_uuid}
 
@@ -57,6 +58,8 @@ plain_ready = record {
   records = records_agree plain_table plain_area (first_record ∷ raw_record ∷ []) 510 refl refl refl (first_right, (raw_right, tt))
       (λ k below. area_records (top_image 17) empty empty (first_record ∷ raw_record ∷ []) k below);
   recorded = quiet_settled (records_held site plain_table plain_area) (rest_settled (extents_of (rows plain_table Mgt)) plain_image);
+  logs = logged_none site plain_table plain_area (λ u. refl);
+  logged = λ u. quiet_settled (volume_of site plain_table plain_area (Cbt u)) (none_settled plain_area);
 }
 
 -- ---- while a guest writes
@@ -106,6 +109,8 @@ written_ready = record {
   records = records_agree plain_table written_area (first_record ∷ raw_record ∷ []) 510 refl refl refl (first_right, (raw_right, tt))
       (λ k below. first_settled k below ∙ area_records (top_image 17) empty empty (first_record ∷ raw_record ∷ []) k below);
   recorded = quiet_settled (records_held site plain_table written_area) (apart_settled written_area 517 pending_none (numbers 0 16) records_apart);
+  logs = logged_none site plain_table written_area (λ u. refl);
+  logged = λ u. quiet_settled (volume_of site plain_table written_area (Cbt u)) (none_settled written_area);
 }
 
 -- what a stop may leave of it differs from what a read gives

@@ -16,6 +16,7 @@ use Rattle.vg_meta.specs.Tables.{IsTable, Row, rows, row_of, name_eq}
 use Rattle.vhd_chain.specs.Trees.{tree_row}
 use Rattle.vhd_map.specs.Slots.{top_of}
 use Rattle.vhd_volumes.specs.Truth.{HasRoomFor}
+use Rattle.sm_logs.proofs.OrderLaws.{rising_first}
 use Rattle.sm_ready.specs.Known.{row_face, tree_face, shape_in}
 use Rattle.sm_ready.specs.Orderly.{IsOrderly, IsRoomy}
 use Rattle.examples_moments.specs.Worked.{first, second, base}
@@ -72,6 +73,10 @@ tight_only h = record {
   few = lit≤ tt;
   new_named = λ r here new. absurd (let e = sym (tight_old r here) ∙ new in (let x = e in cc));
   images = tight_faces;
+  logs = λ u. refl;
+  few_logs = lit≤ tt;
+  logs_in_order = rising_first;
+  log_room = λ l i. absurd i;
   places = refl;
   entries = refl;
   stands = chain_stands four_slots 1 refl (front_within (Some 0 ∷ Some 1 ∷ Some 2 ∷ Some 3 ∷ []) 60 (lit≤ tt)) four_room (lit< tt);

@@ -3,9 +3,10 @@ use Rattle.std.proofs.Common.{◌≡◌, ◌≢◌, inl, inr, ℕ, zero, suc, �
 use Rattle.std.proofs.lemmas.Bool.{ne_eqb}
 use Rattle.common_laws.specs.Lists.{In, numbers}
 use Rattle.sm_base.specs.Numbers.{first as first_sector, div_up}
-use Rattle.sm_base.specs.declared.names.Name.TheVariants.{Raw, Vhd, Coalesce, Relink}
+use Rattle.sm_base.specs.declared.names.Name.TheVariants.{Cbt, Raw, Vhd, Coalesce, Relink}
 use Rattle.sm_disk.specs.Held.{newest, reads}
 use Rattle.sm_disk.specs.Sectors.{zeros}
+use Rattle.sm_ready.proofs.LogLaws.{logged_none}
 use Rattle.sm_machine.specs.Shapes.{image_uuid, same_image}
 use Rattle.sm_mgt.specs.Places.{Agrees, records_held}
 use Rattle.sm_record.specs.declared.records.Reading.{Reading}
@@ -40,7 +41,7 @@ use Rattle.examples_ready.proofs.ChainReady.{not_held_below, ready_where}
 use Rattle.examples_ready.proofs.PlainOrderly.{orderly_with, stand_right}
 use Rattle.examples_ready.proofs.PlainReady.{plain_holds, plain_place, plain_ready, raw_right, written_ready, written_not_quiet}
 use Rattle.examples_ready.proofs.RecordSteps.{records_agree}
-use Rattle.examples_ready.proofs.SteadySteps.{HoldsImage, apart_settled, entry_alike, held_reads, rest_settled, steady, top_here, top_holds, volume_holds}
+use Rattle.examples_ready.proofs.SteadySteps.{HoldsImage, apart_settled, entry_alike, held_reads, rest_settled, steady, top_here, top_holds, volume_holds, none_settled}
 use Rattle.examples_moments.proofs.PlacedLaws.{spot_numbers}
 use Rattle.examples_ready.proofs.SlotSteps.{front_within}
 use Rattle.examples_ready.proofs.TableSteps.{each}
@@ -61,6 +62,8 @@ forgotten_only h = record {
   };
   records = plain_ready.records;
   recorded = plain_ready.recorded;
+  logs = plain_ready.logs;
+  logged = plain_ready.logged;
 }
 
 -- the volume's entry of block 0 names a slot
@@ -83,6 +86,8 @@ loose_only h = record {
   firm = record { images = written_ready.firm.images; quiet = h; below = tt };
   records = written_ready.records;
   recorded = written_ready.recorded;
+  logs = written_ready.logs;
+  logged = written_ready.logged;
 }
 
 unwritten : is_written_in (shape_in site plain_table plain_known) (Vhd first) ≡ false
@@ -95,7 +100,7 @@ loose_fails h = written_not_quiet (h _ (inr (inl refl)) unwritten)
 -- ---- a cursor past a block that the base holds otherwise
 
 pub uncopied_only : IsBelow (content_now site copy_table uncopied_area) copy → IsReady site copy_table uncopied_area copy_known
-uncopied_only h = ready_where (Coalesce second base) refl 17 copy h
+uncopied_only h = ready_where (Coalesce second base) refl 17 refl copy h
 
 pub uncopied_fails : ¬ IsBelow (content_now site copy_table uncopied_area) copy
 uncopied_fails h = not_held_below (Coalesce second base) refl 17 (λ e. omega (arith, e)) 1 (lit≤ tt) h
@@ -103,7 +108,7 @@ uncopied_fails h = not_held_below (Coalesce second base) refl 17 (λ e. omega (a
 -- ---- nor does it under a link
 
 pub unheld_only : IsBelow (content_now site link_table uncopied_area) link → IsReady site link_table uncopied_area link_known
-unheld_only h = ready_where (Relink second base) refl 17 link h
+unheld_only h = ready_where (Relink second base) refl 17 refl link h
 
 pub unheld_fails : ¬ IsBelow (content_now site link_table uncopied_area) link
 unheld_fails h = not_held_below (Relink second base) refl 17 (λ e. omega (arith, e)) 64 (lit≤ tt) h
@@ -123,6 +128,8 @@ relabelled_only h = record {
   };
   records = h;
   recorded = plain_ready.recorded;
+  logs = plain_ready.logs;
+  logged = plain_ready.logged;
 }
 
 abbrev label_of : Reading → List ℕ
@@ -179,6 +186,8 @@ unsynced_only h = record {
   records = records_agree plain_table unsynced_area (first_record ∷ raw_record ∷ []) 510 refl refl refl (first_right, (raw_right, tt))
       (λ k below. unsynced_reads k ∙ area_records (top_image 17) empty empty (first_record ∷ raw_record ∷ []) k below);
   recorded = h;
+  logs = logged_none site plain_table unsynced_area (λ u. refl);
+  logged = λ u. quiet_settled (volume_of site plain_table unsynced_area (Cbt u)) (none_settled unsynced_area);
 }
 
 zeros_free : reading zeros ≡ Free

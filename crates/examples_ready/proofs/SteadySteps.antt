@@ -229,3 +229,7 @@ apart_settled area place elsewhere es apart p = by (nat_lt p (span 32 es)) refl
     by : (b : Bool) → nat_lt p (span 32 es) ≡ b → (volume 32 es area).pending p ≡ []
     by true is = volume_pending 32 es area p (ltb-true p (span 32 es) is) ∙ elsewhere (spot 32 es p) (apart p (ltb-true p (span 32 es) is))
     by false is = past_pending 32 es area p (ltb-false p (span 32 es) is)
+
+-- nor in one without extents
+pub none_settled : (area : Held) → IsSettled (volume 32 [] area)
+none_settled area p = past_pending 32 [] area p (omega arith)

@@ -1,5 +1,5 @@
 -- Tables that fail one field of the invariant of table and memory.
-use Rattle.std.proofs.Common.{◌≡◌, inl, inr, Bool, cond, true, false, ◌∷◌, ◌++◌, length, Option, Some, None, refl, sym, ap, ◌∙◌, arith, lit≤, lit<, bytes_eq}
+use Rattle.std.proofs.Common.{◌≡◌, inl, inr, Bool, true, false, ◌∷◌, ◌++◌, length, Option, Some, None, refl, sym, ap, ◌∙◌, arith, lit≤, lit<, bytes_eq}
 use Rattle.std.proofs.lemmas.Bool.{true≢false}
 use Rattle.std.specs.List.Sorted.{IsStrictlySortedBy}
 use Rattle.std.specs.List.{IsDistinct}
@@ -26,7 +26,7 @@ use Rattle.examples_ready.specs.WorkedRows.{site}
 use Rattle.examples_ready.proofs.PairOrderly.{pair_orderly}
 use Rattle.examples_ready.proofs.PlainOrderly.{plain_orderly}
 use Rattle.examples_ready.proofs.PlainReady.{plain_tidy}
-use Rattle.examples_ready.proofs.TableSteps.{each, below_by, distinct_by, first_uuid, second_uuid, face_step}
+use Rattle.examples_ready.proofs.TableSteps.{each, below_by, distinct_by, first_uuid, second_uuid, face_step, new_face}
 
 -- ---- two images in one extent
 
@@ -55,6 +55,10 @@ shared_only h = let o = pair_orderly in record {
   few = lit≤ tt;
   new_named = λ r here new. absurd (let e = sym (shared_old r here) ∙ new in (let x = e in cc));
   images = shared_faces;
+  logs = o.logs;
+  few_logs = o.few_logs;
+  logs_in_order = o.logs_in_order;
+  log_room = o.log_room;
   places = o.places;
   entries = refl;
   stands = o.stands;
@@ -108,6 +112,10 @@ short_only h = let o = plain_orderly in record {
   few = lit≤ tt;
   new_named = λ r here new. absurd (let e = sym (short_old r here) ∙ new in (let x = e in cc));
   images = short_faces;
+  logs = o.logs;
+  few_logs = o.few_logs;
+  logs_in_order = o.logs_in_order;
+  log_room = o.log_room;
   places = o.places;
   entries = refl;
   stands = o.stands;
@@ -146,6 +154,10 @@ hidden_only h = let o = plain_orderly in record {
   few = lit≤ tt;
   new_named = λ r here new. absurd (let e = sym (hidden_old r here) ∙ new in (let x = e in cc));
   images = h;
+  logs = o.logs;
+  few_logs = o.few_logs;
+  logs_in_order = o.logs_in_order;
+  log_room = o.log_room;
   places = o.places;
   entries = refl;
   stands = o.stands;
@@ -163,10 +175,6 @@ unfolding row_of name_eq tree_row numbers is_hidden
 hidden_fails h = let e : true ≡ false = ap is_hidden (h (Vhd first) refl) in true≢false e
 
 -- ---- a new volume of a UUID that has an image
-
-new_face : (b : Bool) (r : Row) → row_face (Some r) ≡ None → row_face (cond b (Some r) None) ≡ None
-new_face true r new = new
-new_face false r new = refl
 
 twin_is_table : IsTable 64 twin_table
 unfolding IsName IsStrictlySortedBy name_cmp spelling uuid_text by_index numbers
@@ -202,6 +210,10 @@ twin_only h = let o = plain_orderly in record {
   few = lit≤ tt;
   new_named = h;
   images = twin_faces;
+  logs = o.logs;
+  few_logs = o.few_logs;
+  logs_in_order = o.logs_in_order;
+  log_room = o.log_room;
   places = o.places;
   entries = refl;
   stands = o.stands;
@@ -258,6 +270,10 @@ begun_orderly = let o = plain_orderly in record {
   few = lit≤ tt;
   new_named = begun_named;
   images = begun_faces;
+  logs = o.logs;
+  few_logs = o.few_logs;
+  logs_in_order = o.logs_in_order;
+  log_room = o.log_room;
   places = o.places;
   entries = refl;
   stands = o.stands;

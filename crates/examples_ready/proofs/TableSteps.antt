@@ -1,5 +1,5 @@
 -- What is read off a worked table and worked memory, step by step.
-use Rattle.std.proofs.Common.{◌≡◌, ℕ, ◌<◌, ◌&&◌, not, Bool, true, false, cond, nat_lt, nat_eq, List, [], ◌∷◌, Option, Some, refl, sym, subst, inl, inr}
+use Rattle.std.proofs.Common.{◌≡◌, ℕ, ◌<◌, ◌&&◌, not, Bool, true, false, cond, nat_lt, nat_eq, List, [], ◌∷◌, Option, Some, None, refl, sym, subst, inl, inr}
 use Rattle.std.proofs.lemmas.Bool.{ltb-true}
 use Rattle.std.specs.List.{list_all, AllByRecursion, IsDistinct}
 use Rattle.common_laws.specs.Lists.{In}
@@ -85,3 +85,8 @@ alike n u =
     both_alike (same_name n (Vhd u)) (same_image n (Vhd u))
     (λ is. subst (λ m. same_image m (Vhd u) ≡ true) (sym (name_from_same n (Vhd u) is)) (same_image-refl (Vhd u) refl))
     (λ is. subst (λ m. same_name m (Vhd u) ≡ true) (sym (same_image-sound n (Vhd u) is)) (same_name-refl (Vhd u)))
+
+-- a new volume has no face
+pub new_face : (b : Bool) (r : Row) → row_face (Some r) ≡ None → row_face (cond b (Some r) None) ≡ None
+new_face true r new = new
+new_face false r new = refl

@@ -1,6 +1,7 @@
 -- Memory that fails one field each, beside the tables of the worked repositories.
 use Rattle.std.specs.Prelude.{ℕ, false, List, [], ◌∷◌, replicate, codes, Option, Some, None}
 use Rattle.sm_base.specs.declared.operations.Mode.TheVariants.{Rw}
+use Rattle.sm_log.specs.Logs.{Log}
 use Rattle.sm_record.specs.declared.records.Record.{Record}
 use Rattle.sm_ready.specs.Known.{Known}
 use Rattle.examples_moments.specs.Worked.{first, first_record}
@@ -48,3 +49,10 @@ four_slots = Some 0 ∷ Some 1 ∷ Some 2 ∷ Some 3 ∷ replicate 60 None
 
 abbrev pub tight_known : Known
 tight_known = chain_known copy four_slots 1
+
+-- the log of the VHD disk, which no volume of the table is
+abbrev pub first_log : Log
+first_log = record { disk = first; extents = 1; tag = 0; since = 0; bits = false ∷ [] }
+
+abbrev pub tracked_known : Known
+tracked_known = record plain_known { logs = first_log ∷ [] }

@@ -1,11 +1,12 @@
 -- Tables that fail one field each, beside the memory of the repositories at rest: each is a small change of theirs.
 use Rattle.std.specs.Prelude.{ℕ, ◌/◌, ◌%◌, ◌++◌, Bool, true, false, List, [], ◌∷◌, map, replicate}
 use Rattle.sm_base.specs.declared.names.Name.{Name}
-use Rattle.sm_base.specs.declared.names.Name.TheVariants.{Raw, Vhd, Coalesce}
+use Rattle.sm_base.specs.declared.names.Name.TheVariants.{Raw, Vhd, Cbt, Coalesce}
 use Rattle.common_laws.specs.Lists.{numbers}
 use Rattle.vg_meta.specs.Tables.{VolumeTable, Row}
 use Rattle.examples_standing.specs.SmallContents.{record_row}
 use Rattle.examples_moments.specs.Worked.{first, second, base, image_row, table_with, uuid_of}
+use Rattle.examples_ready.specs.Repositories.{plain_table}
 
 -- the snapshot's image lies in the extents of the disk's
 abbrev pub shared_table : VolumeTable
@@ -28,6 +29,10 @@ short_table = plain_with 15 false []
 -- the VHD disk is hidden, and memory shows it
 abbrev pub hidden_table : VolumeTable
 hidden_table = plain_with 16 true []
+
+-- the two disks, and a new volume for the log of the VHD disk
+abbrev pub log_table : VolumeTable
+log_table = record plain_table { volumes = record { name = Cbt first; hidden = false; fresh = true; extents = 22 ∷ [] } ∷ plain_table.volumes }
 
 -- a new volume of five extents
 abbrev pub new_volume : Name → Row

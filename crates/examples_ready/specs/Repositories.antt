@@ -53,7 +53,7 @@ abbrev pub rows_with : List (Option ℕ) → List TreeRow
 rows_with slots = raw_row second ∷ vhd_row false (top_head first) slots ∷ []
 
 abbrev pub known_with : List (Option ℕ) → List ℕ → Known
-known_with slots label = record { rows = rows_with slots; places = two_places first_record (labelled label); attached = unattached; op = Idle }
+known_with slots label = record { rows = rows_with slots; places = two_places first_record (labelled label); logs = []; attached = unattached; op = Idle }
 
 abbrev pub plain_rows : List TreeRow
 plain_rows = rows_with first_slot
@@ -78,6 +78,7 @@ shape_in_group count records images = record {
   others = 16;
   records = records;
   images = images;
+  logs = [];
   attached = [];
   op = Idle;
 }
@@ -110,6 +111,7 @@ pair_known = record {
       ∷ vhd_row true (top_head base) first_slot
       ∷ [];
   places = two_places first_record second_record;
+  logs = [];
   attached = unattached;
   op = Idle;
 }
@@ -142,6 +144,7 @@ chain_known operation slots n = record {
       ∷ record { image = body.Vhd (top_head base) first_slot; hidden = true; extents = n }
       ∷ [];
   places = Some first_record ∷ replicate 511 None;
+  logs = [];
   attached = unattached;
   op = operation;
 }
@@ -215,6 +218,7 @@ abbrev pub live_known : List ℕ → Known
 live_known dirty = record {
   rows = vhd_row false (head_over (Vhd base) first) first_slot ∷ vhd_row true (top_head base) first_slot ∷ [];
   places = Some first_record ∷ replicate 511 None;
+  logs = [];
   attached = record { disks = (first, Rw) ∷ []; counts = (Vhd first, 1) ∷ (Vhd base, 1) ∷ []; room = 2 };
   op = live dirty;
 }

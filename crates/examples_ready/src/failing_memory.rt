@@ -1,21 +1,24 @@
 //! Memory that fails one field of the invariant of table and memory, or of the one between two commands.
 
-ghost use Rattle.std.specs.Prelude.{◌≡◌, ◌≤◌, ◌*◌, length};
+ghost use Rattle.std.specs.Prelude.{◌≡◌, ◌≤◌, ◌*◌, ℕ, List, length};
 ghost use Rattle.sm_base.specs.Limits.{extent_limit};
 ghost use Rattle.sm_base.specs.Kinds.{is_entry};
 ghost use Rattle.sm_base.specs.declared.names.Name.{Name};
+ghost use Rattle.sm_base.specs.declared.names.Name.TheVariants.{Cbt};
 ghost use Rattle.common_laws.specs.Lists.{In};
+ghost use Rattle.sm_log.specs.Logs.{log_of};
 ghost use Rattle.sm_machine.specs.Shapes.{refs};
 ghost use Rattle.sm_machine.specs.WellFormed.{IsWellFormed};
 ghost use Rattle.sm_mgt.specs.Places.{place_count};
 ghost use Rattle.sm_refs.specs.Attached.{count_of};
 ghost use Rattle.sm_standing.specs.Entries.{names_in};
+ghost use Rattle.vg_meta.specs.Tables.{rows};
 ghost use Rattle.vhd_chain.specs.declared.rows.TreeRow.{TreeRow};
 ghost use Rattle.vhd_image.specs.Bodies.{StandsIn};
-ghost use Rattle.sm_ready.specs.Known.{entry_of, shape_in};
+ghost use Rattle.sm_ready.specs.Known.{entry_of, log_face, row_face, shape_in};
 ghost use Rattle.sm_ready.specs.Orderly.{IsOrderly, IsRoomy};
 ghost use Rattle.sm_ready.specs.Ready.{IsTidy, HasNoStray};
-ghost use Rattle.examples_ready.specs.FailingMemory.{tight_known, short_known, high_known, unrecorded_known, uncounted_known, stray_known};
+ghost use Rattle.examples_ready.specs.FailingMemory.{tight_known, short_known, high_known, unrecorded_known, uncounted_known, stray_known, tracked_known};
 ghost use Rattle.examples_ready.specs.FailingTables.{entryless_table, tight_table};
 ghost use Rattle.examples_ready.specs.Repositories.{plain_table, plain_known, copy_known};
 ghost use Rattle.examples_ready.specs.WorkedRows.{site, site_of, sizes};
@@ -54,6 +57,12 @@ pub fn example_unrecorded()
 pub fn example_uncounted()
     ensures fails { ¬ IsOrderly site plain_table uncounted_known }
     ensures only { ((n : Name) → count_of uncounted_known.attached n ≡ refs n (shape_in site plain_table uncounted_known)) → IsOrderly site plain_table uncounted_known }
+{}
+
+/// Memory has the log of a disk, and the table has no volume of it.
+pub fn example_tracked()
+    ensures fails { ¬ IsOrderly site plain_table tracked_known }
+    ensures only { ((u : List ℕ) → row_face (rows plain_table (Cbt u)) ≡ log_face (log_of u tracked_known.logs)) → IsOrderly site plain_table tracked_known }
 {}
 
 /// A record of no image is no fault between two steps, and is one between two commands.

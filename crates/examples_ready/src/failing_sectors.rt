@@ -1,8 +1,10 @@
 //! Memory and sectors that fail one field of the invariant of the sectors.
 
-ghost use Rattle.std.specs.Prelude.{◌≡◌, ◌*◌, false, []};
+ghost use Rattle.std.specs.Prelude.{◌≡◌, ◌*◌, ℕ, false, List, []};
+ghost use Rattle.sm_base.specs.declared.names.Name.TheVariants.{Cbt};
 ghost use Rattle.common_laws.specs.Lists.{In};
 ghost use Rattle.sm_mgt.specs.Places.{Agrees, records_held};
+ghost use Rattle.sm_standing.specs.Logs.{IsLogged};
 ghost use Rattle.vg_volumes.specs.Sites.{volume_of};
 ghost use Rattle.vhd_chain.specs.Trees.{row_name};
 ghost use Rattle.vhd_chain.specs.declared.rows.TreeRow.{TreeRow};
@@ -13,8 +15,9 @@ ghost use Rattle.sm_ready.specs.Orderly.{IsOrderly};
 ghost use Rattle.sm_ready.specs.Ready.{IsBelow, IsReady, is_written_in};
 ghost use Rattle.sm_ready.specs.Stores.{content_now};
 ghost use Rattle.examples_moments.specs.Worked.{leaf_copied};
-ghost use Rattle.examples_ready.specs.FailingMemory.{forgotten_known, relabelled_known};
-ghost use Rattle.examples_ready.specs.FailingSectors.{uncopied_area, unsynced_area};
+ghost use Rattle.examples_ready.specs.FailingMemory.{forgotten_known, relabelled_known, tracked_known};
+ghost use Rattle.examples_ready.specs.FailingSectors.{log_area, uncopied_area, unsynced_area};
+ghost use Rattle.examples_ready.specs.FailingTables.{log_table};
 ghost use Rattle.examples_ready.specs.Repositories.{copy, copy_table, copy_known, link, link_table, link_known, live, live_known, live_area, plain_table, plain_known, plain_area, written_area};
 ghost use Rattle.examples_ready.specs.WorkedRows.{site, sizes};
 
@@ -62,4 +65,16 @@ pub fn example_relabelled()
 pub fn example_unsynced()
     ensures fails { ¬ IsReady site plain_table unsynced_area plain_known }
     ensures only { IsQuiet (records_held site plain_table unsynced_area) → IsReady site plain_table unsynced_area plain_known }
+{}
+
+/// Memory has the log of a disk, and no volume spells it.
+pub fn example_unspelled()
+    ensures fails { ¬ IsReady site plain_table plain_area tracked_known }
+    ensures only { IsLogged (content_now site plain_table plain_area) tracked_known.logs → IsReady site plain_table plain_area tracked_known }
+{}
+
+/// A sector of a new log was written, and not synced.
+pub fn example_unlasting()
+    ensures fails { ¬ IsReady site log_table log_area plain_known }
+    ensures only { ((u : List ℕ) → IsQuiet (volume_of site log_table log_area (Cbt u))) → IsReady site log_table log_area plain_known }
 {}

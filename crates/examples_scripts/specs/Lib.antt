@@ -5,4 +5,5 @@ pub mod Guests
 pub mod Scripts
 pub mod RawDisks
 pub mod Texts
+pub mod Tracking
 pub mod Crowds

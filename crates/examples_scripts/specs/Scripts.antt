@@ -23,7 +23,7 @@ Script = List Line
 
 -- a new repository
 abbrev pub new : State
-new = record { disks = []; shape = record { sequence = 1; extent = 32; block = 8; entries = 64; extents = 64; others = 16; records = []; images = []; attached = []; op = op.Idle } }
+new = record { disks = []; shape = record { sequence = 1; extent = 32; block = 8; entries = 64; extents = 64; others = 16; records = []; images = []; logs = []; attached = []; op = op.Idle } }
 
 -- the replies to lines, and the state after them
 abbrev pub told : State → Script → List (List ℕ)

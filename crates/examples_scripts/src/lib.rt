@@ -16,7 +16,10 @@ ghost use Rattle.examples_scripts.specs.Disks.{empty, grown, one_disk, order, re
 ghost use Rattle.examples_scripts.specs.Crowds.{crowded_from, crowded};
 ghost use Rattle.examples_scripts.specs.Guests.{attached_grows, fork_room, snapshot_of_attached, guest_writes, shared_base, no_room, raw_base};
 ghost use Rattle.examples_scripts.specs.Collecting.{coalesce, given_up, fold, live, live_many, live_new_block, live_given_up, blocked};
+ghost use Rattle.sm_log.specs.Examples.{answer};
+ghost use Rattle.examples_scripts.specs.Tracking.{earlier, later, logs_deleted, logs_later, logs_written, started, stopped, tracked_after, tracked_disk, tracked_told, until_deleted, until_later, until_written};
 ghost use Rattle.examples_scripts.specs.Scripts.{IsAnswered, after, new, spent_from};
+ghost use Rattle.std.specs.Prelude.{map};
 
 /// Raw disks, and refusals by name, room and size.
 pub fn script_raw_disks()
@@ -179,4 +182,17 @@ pub fn script_least_slot()
     ensures gap { with_block 0 (None ∷ Some 1 ∷ []) ≡ Some 0 ∷ Some 1 ∷ [] }
     ensures end { with_block 2 (Some 1 ∷ Some 0 ∷ None ∷ None ∷ []) ≡ Some 1 ∷ Some 0 ∷ Some 2 ∷ None ∷ [] }
     ensures kept { with_block 1 (None ∷ Some 3 ∷ []) ≡ None ∷ Some 3 ∷ [] }
+{}
+
+/// A tracked disk is written to between two snapshots: a log is made with each snapshot, and goes with its disk.
+pub fn script_tracked()
+    ensures replies { tracked_told started until_later ≡ map (λ l. l.answer ++ 10 ∷ []) until_later }
+    ensures written { (tracked_after started until_written).shape.logs ≡ logs_written }
+    ensures later { (tracked_after started until_later).shape.logs ≡ logs_later }
+    ensures changed { answer earlier later ((tracked_after started until_later).shape.logs) ≡ Some (codes "QA==") }
+    ensures now { answer later tracked_disk ((tracked_after started until_later).shape.logs) ≡ Some (codes "AA==") }
+    ensures others { (tracked_after started until_later).shape.others ≡ 19 }
+    ensures deleted { (tracked_after started until_deleted).shape.logs ≡ logs_deleted }
+    ensures counted { (tracked_after started until_deleted).shape.sequence ≡ 30 }
+    ensures stopped { stopped.shape.others ≡ 17 }
 {}

@@ -1,4 +1,4 @@
-use Rattle.std.proofs.Common.{inl, [], ◌∷◌, ⊎_elim}
+use Rattle.std.proofs.Common.{[], ◌∷◌, ⊎_elim}
 use Rattle.examples_ready.proofs.LiveOrderly.{live_has_shape, live_orderly}
 use Rattle.examples_ready.proofs.LiveReady.{live_ready, live_tidy}
 use Rattle.examples_ready.proofs.working.example_living.Goals as goal

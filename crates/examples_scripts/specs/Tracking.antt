@@ -1,0 +1,82 @@
+-- A disk of two pieces is tracked: its second piece is written to between two snapshots of it.
+use Rattle.std.specs.Prelude.{ℕ, List, [], ◌∷◌, ◌++◌, Bool, false, true, Option, Some, None, codes, replicate}
+use Rattle.sm_log.specs.Logs.{Log}
+use Rattle.sm_machine.specs.declared.commands.Command.{Command}
+use Rattle.sm_machine.specs.Lines.{spelled}
+use Rattle.sm_machine.specs.Replies.{printed}
+use Rattle.sm_machine.specs.Steps.{State, Outcome, step_line}
+use Rattle.sm_machine.specs.Tracking.{begun, ended, tracked_step}
+use Rattle.examples_scripts.specs.Scripts.{Script, line, new, after}
+
+-- the step of a line, with what it does to logs
+abbrev pub tracked_or_bad : Option Command → State → List ℕ → Outcome
+tracked_or_bad None σ asked = step_line σ asked
+tracked_or_bad (Some c) σ asked = tracked_step σ c
+
+abbrev pub tracked_line : State → List ℕ → Outcome
+tracked_line σ asked = tracked_or_bad (spelled asked) σ asked
+
+-- the replies to lines, and the state after them
+abbrev pub tracked_told : State → Script → List (List ℕ)
+tracked_told σ [] = []
+tracked_told σ (l ∷ lines) = let o : Outcome = tracked_line σ l.asked in printed o.reply ∷ tracked_told o.after lines
+
+abbrev pub tracked_after : State → Script → State
+tracked_after σ [] = σ
+tracked_after σ (l ∷ lines) = tracked_after ((tracked_line σ l.asked).after) lines
+
+-- the UUIDs of a disk and of its two snapshots
+abbrev pub tracked_disk : List ℕ
+tracked_disk = 17 ∷ 17 ∷ 17 ∷ 17 ∷ 17 ∷ 17 ∷ 65 ∷ 17 ∷ 129 ∷ replicate 7 17
+
+abbrev pub earlier : List ℕ
+earlier = 34 ∷ 34 ∷ 34 ∷ 34 ∷ 34 ∷ 34 ∷ 66 ∷ 34 ∷ 130 ∷ replicate 7 34
+
+abbrev pub later : List ℕ
+later = 51 ∷ 51 ∷ 51 ∷ 51 ∷ 51 ∷ 51 ∷ 67 ∷ 51 ∷ 131 ∷ replicate 7 51
+
+-- the disk is made, and tracking of it begins
+abbrev pub made : Script
+made = line (codes "create 11111111-1111-4111-8111-111111111111 131072 vhd x") (codes "ok 131072") ∷ []
+
+abbrev pub started : State
+started = let σ : State = after new made in record { disks = σ.disks; shape = begun σ.shape tracked_disk }
+
+-- two snapshots, and between them a write to the second piece
+abbrev pub until_written : Script
+until_written =
+    line (codes "attach 11111111-1111-4111-8111-111111111111 rw") (codes "ok") ∷
+    line (codes "snapshot 11111111-1111-4111-8111-111111111111 22222222-2222-4222-8222-222222222222") (codes "ok") ∷
+    line (codes "fill 11111111-1111-4111-8111-111111111111 128 1 aa") (codes "ok") ∷
+    []
+
+abbrev pub until_later : Script
+until_later =
+    until_written
+    ++ line (codes "snapshot 11111111-1111-4111-8111-111111111111 33333333-3333-4333-8333-333333333333") (codes "ok")
+    ∷ line (codes "stat") (codes "ok seq 28 free 13 op none images 5 VHD-11111111-1111-4111-8111-111111111111,v,VHD-6c766864-0000-8000-8000-000000000012,131072,0,10,1 VHD-22222222-2222-4222-8222-222222222222,v,VHD-6c766864-0000-8000-8000-000000000008,131072,0,1,0 VHD-33333333-3333-4333-8333-333333333333,v,VHD-6c766864-0000-8000-8000-000000000012,131072,0,1,0 VHD-6c766864-0000-8000-8000-000000000008,h,-,131072,0,10,1 VHD-6c766864-0000-8000-8000-000000000012,h,VHD-6c766864-0000-8000-8000-000000000008,131072,1,10,1")
+    ∷ []
+
+-- then the first snapshot is deleted
+abbrev pub until_deleted : Script
+until_deleted = until_later ++ line (codes "delete 22222222-2222-4222-8222-222222222222") (codes "ok") ∷ []
+
+-- a log of one extent, with this tag, since this one, and whether the first piece and the second were written to
+abbrev pub log_with : List ℕ → ℕ → ℕ → Bool → Bool → Log
+log_with disk tag since first second = record { disk = disk; extents = 1; tag = tag; since = since; bits = first ∷ second ∷ [] }
+
+-- the logs once the second piece is written
+abbrev pub logs_written : List Log
+logs_written = log_with tracked_disk 0 8 false true ∷ log_with earlier 8 0 false false ∷ []
+
+-- the logs once the second snapshot is taken
+abbrev pub logs_later : List Log
+logs_later = log_with tracked_disk 0 18 false false ∷ log_with earlier 8 0 false false ∷ log_with later 18 8 false true ∷ []
+
+-- the logs once the first snapshot is deleted
+abbrev pub logs_deleted : List Log
+logs_deleted = log_with tracked_disk 0 18 false false ∷ log_with later 18 8 false true ∷ []
+
+-- the state once tracking of the disk ends
+abbrev pub stopped : State
+stopped = let σ : State = tracked_after started until_deleted in record { disks = σ.disks; shape = ended σ.shape tracked_disk }
