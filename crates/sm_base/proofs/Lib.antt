@@ -1,5 +1,6 @@
 pub mod BaseLemmas
 pub mod KindLaws
+pub mod LogOrder
 pub mod NameLemmas
 pub mod NumberLemmas
 pub mod OrderLemmas

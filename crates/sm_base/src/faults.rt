@@ -44,6 +44,8 @@ pub enum Place {
     Record { index: u32 },
     /// A disk, which has no record or several.
     Disk { uuid: Uuid },
+    /// The log of a disk.
+    Log { name: Name },
 }
 
 /// Why a repository is not opened.

@@ -22,6 +22,8 @@ pub enum Refusal {
     ReadOnly,
     /// The disk's volume is raw.
     RawDisk,
+    /// The disk is tracked.
+    Tracked,
     /// The sectors are none, too many, or not all within the disk.
     OutOfRange,
     /// The size is 0 or too large.
@@ -47,7 +49,7 @@ pub enum Refusal {
 }
 
 impl Refusal {
-    /// The refusal's number, from 1 to 19 in the order of the tests.
+    /// The refusal's number, from 1 to 20: in the order of the tests, but for that of a tracked disk, which is 20.
     pub fn number(&self) -> u8
         ensures { result ≡ number_of self.now }
     {
@@ -60,6 +62,7 @@ impl Refusal {
             Refusal::NotAttached => 6,
             Refusal::ReadOnly => 7,
             Refusal::RawDisk => 8,
+            Refusal::Tracked => 20,
             Refusal::OutOfRange => 9,
             Refusal::BadSize => 10,
             Refusal::Shrink => 11,
