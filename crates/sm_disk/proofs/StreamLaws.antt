@@ -1,6 +1,8 @@
 -- Laws of what calls take from a source and add to a sink.
-use Rattle.std.proofs.Common.{◌≡◌, ℕ, ◌+◌, ◌-◌, ◌≤◌, ◌<◌, min, false, arith, List, [], ◌++◌, length, take, drop, Option, Some, None, sym, refl, ap, ◌∙◌, subst, append_assoc}
-use Rattle.std.proofs.lemmas.List.{append-nil, length-take, length-drop, take-append-drop, drop-drop, take_at, nil_from_length}
+use Rattle.std.proofs.Common.{◌≡◌, ◌≢◌, All, ℕ, ◌+◌, ◌-◌, ◌≤◌, ◌<◌, min, false, arith, List, [], ◌++◌, length, take, drop, Option, Some, None, Result, Ok, Err, IfOk, sym, refl, ap, ◌∙◌, subst, append_assoc}
+use Rattle.std.proofs.lemmas.List.{append-nil, length-take, length-drop, take-append-drop, drop-drop, take_at, take-take, take-append-le, take_all, nil_from_length}
+use Rattle.std.proofs.lemmas.List.Elements.{All-take}
+use Rattle.std.specs.Io.{StopsAt}
 use Rattle.std.proofs.lemmas.Bool.Decides.{nat_tests}
 use Rattle.std.proofs.Math.Seq.{take-add}
 use Rattle.sm_disk.specs.Streams.{Takes, Adds}
@@ -61,3 +63,27 @@ none_left s len more some room none = nil_from_length s.left (let z = by s.until
     by : (until : Option ℕ) (n : ℕ) → is_over until ≡ false → at_most until n ≡ 0 → n ≡ 0
     by None n more none = none
     by (Some m) n more none = grind (arith, nat_tests)
+
+-- bytes from the front, and none behind the first that is `last`
+pub stops_through : (left bytes : List ℕ) (now : Option (List ℕ)) (last most : ℕ) → Takes (Some left) bytes now → length bytes ≤ most
+    → All (λ byte. byte ≢ last) (take (most - 1) left) → StopsAt bytes last
+stops_through left bytes now last most (rest, is, front) short before =
+    let n = length bytes - 1 in
+    let less : n ≤ most - 1 = omega arith in
+    let within : n ≤ length bytes = omega arith in
+    let P : List ℕ → Type 0 = All (λ byte. byte ≢ last) in
+    subst P (take-take n (most - 1) left less ∙ ap (take n) front ∙ take-append-le n bytes rest within) (All-take (λ byte. byte ≢ last) n (take (most - 1) left) before)
+
+-- so it is of what a call read into the front of a buffer
+pub stops_by_read : {E : Type 0} (r : Result ℕ E) (left piece rest : List ℕ) (now : Option (List ℕ)) (last most : ℕ) → IfOk r (λ n. n ≤ length piece)
+    → IfOk r (λ n. Takes (Some left) (take n piece) now) → length piece ≤ most → All (λ byte. byte ≢ last) (take (most - 1) left)
+    → IfOk r (λ n. StopsAt (take n (piece ++ rest)) last)
+stops_by_read (Ok n) left piece rest now last most within takes short before =
+    let less : length (take n piece) ≤ most = omega (arith, length-take n piece) in
+    let P : List ℕ → Type 0 = λ l. StopsAt l last in
+    subst P (sym (take-append-le n piece rest within)) (stops_through left (take n piece) now last most takes less before)
+stops_by_read (Err e) left piece rest now last most within takes short before = tt
+
+-- what stands behind a place, up to the length
+pub take-behind : (all : List ℕ) (given : ℕ) → take (length all - given) (drop given all) ≡ drop given all
+take-behind all given = take_all (length all - given) (drop given all) (omega (arith, length-drop given all))

@@ -46,4 +46,4 @@ pub use devices::{Disk, put, read_sector, write_sector};
 pub use memory::MemDisk;
 pub use memory_streams::{MemSink, MemSource};
 pub use sm_base::{Failed, NoMemory};
-pub use streams::{Sink, Source, write_all};
+pub use streams::{Sink, Source, length_through, write_all};

@@ -6,7 +6,7 @@ ghost use Rattle.sm_disk.specs.Streams.{Adds, Takes};
 ghost use Rattle.sm_disk.specs.MemoryStreams.{Basin, Spring, after, at_most, given_by, is_over};
 
 use crate::counts::answer;
-use crate::streams::{Sink, Source};
+use crate::streams::{Sink, Source, length_through};
 use sm_base::{Failed, NoMemory};
 use std::alloc::Global;
 use std::marker::Model;
@@ -153,6 +153,13 @@ impl Source for MemSource {
         self.given += n;
         self.until = after(self.until, n);
         Ok(n)
+    }
+
+    fn read_until(&mut self, last: u8, to: &mut [u8]) -> Result<usize, Failed> {
+        let most = to
+            .len()
+            .min(length_through(&self.bytes[self.given..], last));
+        self.read(&mut to[..most])
     }
 }
 

@@ -3,29 +3,38 @@
 ghost use Rattle.std.specs.Prelude.{◌≡◌, ◌≤◌, None};
 ghost use Rattle.sm_disk.specs.Held.{Rose};
 
-use sm_disk::{Failed, Sink, Source};
-use std::io::{Read, Write};
+use sm_disk::{Failed, Sink, Source, length_through};
+use std::io::{BufRead, Write};
 
 /// The bytes of a sector.
 const SECTOR: usize = 512;
 
-/// A reader as a source, as standard input.
+/// A buffered reader as a source, as standard input.
 #[derive(Drop)]
 pub struct ReadSource<R> {
     reader: R,
     faults: u64,
 }
 
-impl<R: Read> ReadSource<R> {
+impl<R: BufRead> ReadSource<R> {
     /// The source that a reader is.
     pub fn new(reader: R) -> ReadSource<R>
         ensures { result.faults ≡ 0 }
     {
         ReadSource { reader, faults: 0 }
     }
+
+    /// One fault more, up to the last number.
+    fn failed(&mut self) -> Failed
+        ensures rose { Rose self.old.faults self.new.faults }
+        ensures counts { self.old.faults ≤ self.new.faults }
+    {
+        self.faults = self.faults.saturating_add(1);
+        Failed
+    }
 }
 
-impl<R: Read> Source for ReadSource<R> {
+impl<R: BufRead> Source for ReadSource<R> {
     ghost content = { λ _. None };
 
     ghost faults = { λ source. source.faults };
@@ -33,10 +42,19 @@ impl<R: Read> Source for ReadSource<R> {
     fn read(&mut self, to: &mut [u8]) -> Result<usize, Failed> {
         match self.reader.read(to) {
             Ok(count) => Ok(count),
-            Err(_) => {
-                self.faults = self.faults.saturating_add(1);
-                Err(Failed)
+            Err(_) => Err(self.failed()),
+        }
+    }
+
+    fn read_until(&mut self, last: u8, to: &mut [u8]) -> Result<usize, Failed> {
+        match self.reader.fill_buf() {
+            Ok(bytes) => {
+                let count = to.len().min(length_through(bytes, last));
+                to[..count].copy_from_slice(&bytes[..count]);
+                self.reader.consume(count);
+                Ok(count)
             }
+            Err(_) => Err(self.failed()),
         }
     }
 }
