@@ -76,15 +76,15 @@ bit-map f a zero i w = absurd (omega arith)
 bit-map f a (suc n) zero w = let e : a ≡ a + 0 = omega arith in ap f e
 bit-map f a (suc n) (suc i) w = let e : a + 1 + i ≡ a + suc i = omega arith in bit-map f (a + 1) n i (omega arith) ∙ ap f e
 
-bit-flags : (f : ℕ → Bool) (n i : ℕ) → i < n → bit (map f (numbers 0 n)) i ≡ f i
+pub bit-flags : (f : ℕ → Bool) (n i : ℕ) → i < n → bit (map f (numbers 0 n)) i ≡ f i
 bit-flags f n i w = let e : 0 + i ≡ i = omega arith in bit-map f 0 n i w ∙ ap f e
 
-length-numbers : (a n : ℕ) → length (numbers a n) ≡ n
+pub length-numbers : (a n : ℕ) → length (numbers a n) ≡ n
 unfolding numbers
 length-numbers a zero = refl
 length-numbers a (suc n) = ap suc (length-numbers (a + 1) n)
 
-length-flags : (f : ℕ → Bool) (n : ℕ) → length (map f (numbers 0 n)) ≡ n
+pub length-flags : (f : ℕ → Bool) (n : ℕ) → length (map f (numbers 0 n)) ≡ n
 length-flags f n = length-map (numbers 0 n) f ∙ length-numbers 0 n
 
 pub length-bits : (pieces : ℕ) (bytes : List ℕ) → length (bits_in pieces bytes) ≡ pieces
@@ -101,7 +101,7 @@ kept-bit pieces bytes kept k = by (cases_lt k pieces)
     by (inl w) = bit-flags (is_set bytes) pieces k w
     by (inr far) = past (bits_in pieces bytes) k (rw (length-bits pieces bytes) far) ∙ sym (kept.clear k far)
 
-same_flags : (xs ys : List Bool) → length xs ≡ length ys → ((k : ℕ) → k < length xs → bit xs k ≡ bit ys k) → xs ≡ ys
+pub same_flags : (xs ys : List Bool) → length xs ≡ length ys → ((k : ℕ) → k < length xs → bit xs k ≡ bit ys k) → xs ≡ ys
 same_flags [] [] long h = refl
 same_flags [] (y ∷ ys) long h = absurd (omega (arith, long))
 same_flags (x ∷ xs) [] long h = absurd (omega (arith, long))
@@ -144,18 +144,23 @@ not_in first n k (inr late) i = let p = In-numbers first n k i in omega (arith, 
 pub kept-set : (pieces first end : ℕ) (old new : List ℕ) → AreKept pieces old → AreSet first end old new → end ≤ pieces → AreKept pieces new
 kept-set pieces first end old new kept set within = record { long = set.long ∙ kept.long; clear = λ k far. set.behind k (omega arith) ∙ kept.clear k far }
 
-pub seen-set : (pieces first n end : ℕ) (old new : List ℕ) → AreKept pieces old → AreSet first end old new → first + n ≡ end → end ≤ pieces
+-- low, high: the places from which and before which they are set, among the first pieces
+pub seen-set : (pieces first n low high : ℕ) (old new : List ℕ) → AreKept pieces old → AreSet low high old new → low ≡ min first pieces → high ≡ min (first + n) pieces
     → bits_in pieces new ≡ marked (numbers first n) (bits_in pieces old)
-seen-set pieces first n end old new kept set e within =
-    seen pieces new (marked (numbers first n) (bits_in pieces old)) (marked-long (numbers first n) (bits_in pieces old) ∙ length-bits pieces old) (λ k w. by k w (cases_lt k first) (cases_lt k end))
+seen-set pieces first n low high old new kept set e f =
+    seen pieces new (marked (numbers first n) (bits_in pieces old)) (marked-long (numbers first n) (bits_in pieces old) ∙ length-bits pieces old) (λ k w. by k w (cases_lt k first) (cases_lt k (first + n)))
   where
-    by : (k : ℕ) → k < pieces → (k < first) ⊎ (first ≤ k) → (k < end) ⊎ (end ≤ k) → bit (marked (numbers first n) (bits_in pieces old)) k ≡ is_set new k
-    by k w (inl early) b = marked-others (numbers first n) (bits_in pieces old) k (not_in first n k (inl early)) ∙ kept-bit pieces old kept k ∙ sym (set.before k early)
+    by : (k : ℕ) → k < pieces → (k < first) ⊎ (first ≤ k) → (k < first + n) ⊎ (first + n ≤ k) → bit (marked (numbers first n) (bits_in pieces old)) k ≡ is_set new k
+    by k w (inl early) b =
+        let here : k < low = omega (arith, e, early, w) in
+        marked-others (numbers first n) (bits_in pieces old) k (not_in first n k (inl early)) ∙ kept-bit pieces old kept k ∙ sym (set.before k here)
     by k w (inr from) (inl to) =
-        marked-sets (numbers first n) (bits_in pieces old) k (numbers-In first n k from (omega (arith, to, e))) (rw (length-bits pieces old) w) ∙ sym (set.inside k from to)
+        let above : low ≤ k = omega (arith, e, from) in
+        let below : k < high = omega (arith, f, to, w) in
+        marked-sets (numbers first n) (bits_in pieces old) k (numbers-In first n k from to) (rw (length-bits pieces old) w) ∙ sym (set.inside k above below)
     by k w (inr from) (inr late) =
-        let far : first + n ≤ k = omega (arith, late, e) in
-        marked-others (numbers first n) (bits_in pieces old) k (not_in first n k (inr far)) ∙ kept-bit pieces old kept k ∙ sym (set.behind k late)
+        let far : high ≤ k = omega (arith, f, late) in
+        marked-others (numbers first n) (bits_in pieces old) k (not_in first n k (inr late)) ∙ kept-bit pieces old kept k ∙ sym (set.behind k far)
 
 pub kept-either : (pieces less : ℕ) (others old new : List ℕ) → less ≤ pieces → AreKept pieces old → AreKept less others → AreEither others old new → AreKept pieces new
 kept-either pieces less others old new few kept there both = record {

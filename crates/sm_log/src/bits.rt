@@ -1,6 +1,6 @@
 //! The bits of a log in memory.
 
-ghost use Rattle.std.specs.Prelude.{◌≡◌, ◌≤◌, ◌<◌, ◌+◌, ◌-◌, ◌*◌, ◌/◌, ℕ, Bool, List, false, true, length, drop, replicate, IfOk, MatchBool};
+ghost use Rattle.std.specs.Prelude.{◌≡◌, ◌≤◌, ◌<◌, ◌+◌, ◌-◌, ◌*◌, ◌/◌, ℕ, Bool, List, false, true, length, drop, replicate, min, nat_le, IfOk, MatchBool};
 ghost use Rattle.std.specs.List.{list_all};
 ghost use Rattle.std.specs.String.{string_bytes};
 ghost use Rattle.sm_base.specs.Numbers.{div_up};
@@ -65,20 +65,26 @@ impl Bits {
         bit(&self.bytes, piece as usize)
     }
 
-    /// Whether the bits of all pieces are set that so many sectors of the disk from one on reach.
+    /// Whether so many sectors of the disk from one on lie in pieces that have a bit here.
+    pub fn has(&self, sector: u64, count: u64) -> bool
+        ensures { result ≡ nat_le (sector + count) (piece_sectors * length self.now) }
+    {
+        is_within(sector, count, self.pieces)
+    }
+
+    /// Whether the bits of all pieces are set that so many sectors of the disk from one on reach. A piece behind the last has none that is
+    /// set.
     pub fn are_marked(&self, sector: u64, count: u64) -> bool
         requires some { 1 ≤ count }
-        requires within { sector + count ≤ piece_sectors * length self.now }
         ensures { result ≡ list_all (bit self.now) (pieces_touched sector count) }
     {
         let (first, end) = reached(sector, count, self.pieces);
-        are_set(&self.bytes, first, end)
+        is_within(sector, count, self.pieces) && are_set(&self.bytes, first, end)
     }
 
-    /// Sets the bits of the pieces that so many sectors of the disk from one on reach.
+    /// Sets the bits of the pieces that so many sectors of the disk from one on reach. Those behind the last piece are nothing.
     pub fn mark(&mut self, sector: u64, count: u64)
         requires some { 1 ≤ count }
-        requires within { sector + count ≤ piece_sectors * length self.old }
         ensures { self.new ≡ marked (pieces_touched sector count) self.old }
     {
         let (first, end) = reached(sector, count, self.pieces);
@@ -135,16 +141,25 @@ pub fn spelled(alloc: Global, bits: &Bits) -> Result<String, NoMemory>
     text_of(alloc, &bits.bytes, count)
 }
 
-/// The first of the pieces that so many sectors from one on reach, and the one behind the last of them.
+/// Whether so many sectors from one on lie in the first pieces, so many.
+fn is_within(sector: u64, count: u64, pieces: u32) -> bool
+    ensures { result ≡ nat_le (sector + count) (piece_sectors * pieces) }
+{
+    let limit = 128 * u64::from(pieces);
+    count <= limit && sector <= limit - count
+}
+
+/// The first of the pieces that so many sectors from one on reach, and the one behind the last of them, but for those that are not among
+/// the first pieces, so many.
 fn reached(sector: u64, count: u64, pieces: u32) -> (usize, usize)
     requires some { 1 ≤ count }
-    requires within { sector + count ≤ piece_sectors * pieces }
-    ensures first { result.0 ≡ sector / piece_sectors }
-    ensures end { result.1 ≡ (sector + count - 1) / piece_sectors + 1 }
+    ensures first { result.0 ≡ min (sector / piece_sectors) pieces }
+    ensures end { result.1 ≡ min ((sector + count - 1) / piece_sectors + 1) pieces }
 {
-    let first = sector / 128;
-    let last = (sector + count - 1) / 128;
-    (first as usize, last as usize + 1)
+    let limit = u64::from(pieces);
+    let first = (sector / 128).min(limit);
+    let last = sector.saturating_add(count - 1) / 128;
+    (first as usize, (last + 1).min(limit) as usize)
 }
 
 /// The first bytes, so many, in base64.

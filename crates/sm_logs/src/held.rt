@@ -100,7 +100,6 @@ impl Logs {
     /// Whether a disk has no log, or its log has the bits set of all pieces that so many of the disk's sectors from one on reach.
     pub fn is_touched(&self, disk: &Uuid, sector: u64, count: u64) -> bool
         requires some { 1 ≤ count }
-        requires within { IfSome (log_of disk.now self.now) (λ l. sector + count ≤ piece_sectors * length l.bits) }
         ensures { result ≡ is_touched disk.now sector count self.now }
     {
         match self.get(disk) {
@@ -109,10 +108,10 @@ impl Logs {
         }
     }
 
-    /// Sets in the log of a disk, where it has one, the bits of the pieces that so many of its sectors from one on reach.
+    /// Sets in the log of a disk, where it has one, the bits of the pieces that so many of its sectors from one on reach; pieces behind the
+    /// last are nothing.
     pub fn touch(&mut self, disk: &Uuid, sector: u64, count: u64)
         requires some { 1 ≤ count }
-        requires within { IfSome (log_of disk.now self.old) (λ l. sector + count ≤ piece_sectors * length l.bits) }
         ensures { self.new ≡ on_log disk.now (touched sector count) self.old }
     {
         let Ok(at) = place(&self.rows, disk) else {

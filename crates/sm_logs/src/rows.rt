@@ -105,7 +105,6 @@ impl Log {
     /// Whether the bits of all pieces are set that so many sectors of the disk from one on reach.
     pub fn is_touched(&self, sector: u64, count: u64) -> bool
         requires some { 1 ≤ count }
-        requires within { sector + count ≤ piece_sectors * length self.now.bits }
         ensures { result ≡ list_all (bit self.now.bits) (pieces_touched sector count) }
     {
         self.bits.are_marked(sector, count)
@@ -114,7 +113,6 @@ impl Log {
     // Sets the bits of the pieces that so many sectors of the disk from one on reach.
     pub(crate) fn touch(&mut self, sector: u64, count: u64)
         requires some { 1 ≤ count }
-        requires within { sector + count ≤ piece_sectors * length self.old.bits }
         ensures { self.new ≡ touched sector count self.old }
     {
         self.bits.mark(sector, count);

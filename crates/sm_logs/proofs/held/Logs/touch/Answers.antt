@@ -1,8 +1,8 @@
-use Rattle.std.proofs.Common.{◌≡◌, ◌≤◌, ◌+◌, ◌*◌, List, length, Option, Some, None, refl, sym, ap, subst, ◌∙◌, arith}
-use Rattle.std.specs.Prelude.{slice_set, IfSome}
-use Rattle.sm_log.specs.Logs.{Log, log_of, on_log, piece_sectors, touched}
+use Rattle.std.proofs.Common.{◌≡◌, List, None, refl, sym, ap, subst, ◌∙◌, arith}
+use Rattle.std.specs.Prelude.{slice_set}
+use Rattle.sm_log.specs.Logs.{Log, log_of, on_log, touched}
 use Rattle.sm_logs.specs.Held.{IsPlace, IsRising}
-use Rattle.sm_logs.proofs.PlaceLaws.{placed, read_at, within}
+use Rattle.sm_logs.proofs.PlaceLaws.{read_at, within}
 use Rattle.sm_logs.proofs.OrderLaws.{changed_at, on_none, rising_on}
 use Rattle.sm_logs.proofs.held.Logs.touch.Goals as goal
 
@@ -21,13 +21,6 @@ returns-in_default c =
 
 pub index_mut-log-requires : goal.index_mut-log-requires
 index_mut-log-requires c = let low = within c.deref.result.now c.args.disk.now c.in-Ok.at c.in-Ok.ensures.found in omega (arith, low, c.deref.ensures.len)
-
-pub touch-requires-clause-within : goal.touch-requires-clause-within
-touch-requires-clause-within c =
-    let at : IsPlace c.self.inside.rows.items c.args.disk.now c.in-Ok.at = subst (λ (ls : List Log). IsPlace ls c.args.disk.now c.in-Ok.at) c.deref.ensures.value c.in-Ok.ensures.found in
-    let held : log_of c.args.disk.now c.args.self.now ≡ Some at.held = ap (log_of c.args.disk.now) (sym c.self.view_is) ∙ placed c.self.inside.rows.items c.args.disk.now c.in-Ok.at at in
-    let fits : c.args.sector + c.args.count ≤ piece_sectors * length at.held.bits = subst (λ (o : Option Log). IfSome o (λ l. c.args.sector + c.args.count ≤ piece_sectors * length l.bits)) held c.requires.within in
-    rw (read_at c.self.inside.rows.items c.args.disk.now c.in-Ok.at c.index_mut-log.result.now at c.index_mut-log.ensures.value) fits
 
 pub invariant_of-self : goal.invariant_of-self
 invariant_of-self c = record {
