@@ -1,15 +1,15 @@
 -- Every step keeps a shape well-formed.
-use Rattle.std.proofs.Common.{◌≡◌, ℕ, ◌+◌, ◌-◌, ◌^◌, ◌<◌, ◌≤◌, ◌/◌, Bool, true, false, Option, Some, None, refl, sym, subst, arith}
+use Rattle.std.proofs.Common.{◌≡◌, ℕ, ◌+◌, ◌-◌, ◌^◌, ◌<◌, ◌≤◌, ◌/◌, nat_lt, Bool, true, false, Option, Some, None, refl, sym, subst, arith}
 use Rattle.std.specs.Prelude.{length}
-use Rattle.std.proofs.lemmas.Bool.{leb-false, or_parts}
+use Rattle.std.proofs.lemmas.Bool.{le-ltb, leb-false, ltb-false, or_parts}
 use Rattle.sm_base.specs.declared.operations.Mode.TheVariants.{Ro, Rw}
 use Rattle.sm_machine.specs.Operations as op
 use Rattle.sm_base.specs.declared.refusals.Refusal.{Refusal}
 use Rattle.sm_machine.specs.declared.commands.Command.{Command}
 use Rattle.sm_machine.specs.declared.commands.Command.TheVariants.{Create, Delete, Attach, Detach, Snapshot, Clone, Resize, Label, Write, Fill, Read, Flush, Gc, List as Listing, Stat}
 use Rattle.sm_machine.specs.Disks.{sector_bytes}
-use Rattle.sm_machine.specs.Shapes.{Shape, risen, last_sequence}
-use Rattle.sm_machine.specs.Refusals.{refusal, named, new_uuid, forked, images_needed, need, is_reserved, is_unknown, is_taken, is_deep, is_too_many, is_spent, lacks_space}
+use Rattle.sm_machine.specs.Shapes.{Shape, disk_image, free, risen, last_sequence}
+use Rattle.sm_machine.specs.Refusals.{fork_need, log_need, refusal, with_image_of, named, new_uuid, forked, images_needed, need, is_reserved, is_unknown, is_taken, is_deep, is_too_many, is_spent, lacks_space}
 use Rattle.sm_machine.specs.Collector.{next_step, collected}
 use Rattle.sm_machine.specs.Commits.{folds, gives_up, is_given_up, commits, own_commits, one_if}
 use Rattle.sm_machine.specs.Steps.{State, accepted, unless_refused, step, given_up, shape_after, shape_next, delete_shape, attach_shape, detach_shape, resize_shape, fork_shape}
@@ -57,9 +57,23 @@ rw_given s w u p false e = attach_rw_keeps s w u p s.op (attach_rw_operation s w
 
 -- ---- forks
 
+-- where a sum is free, so is its first part
+less_space : (free a b : ℕ) → nat_lt free (a + b) ≡ false → nat_lt free a ≡ false
+less_space free a b e =
+    let h : a + b ≤ free = ltb-false free (a + b) e in
+    le-ltb free a (omega (arith, h))
+
 pub snapshot_facts : (s : Shape) (u twin : _) → IsPassed s (Snapshot u twin) → IsForkable s u twin
 unfolding is_reserved is_unknown is_taken is_deep is_too_many is_spent lacks_space named new_uuid forked images_needed need
-snapshot_facts s u twin p = record { not_base = (or_parts _ _ p.reserved).1; not_taken = p.taken; is_known = p.unknown; not_deep = p.deep; not_many = p.too_many; not_spent = p.spent; has_space = p.space }
+snapshot_facts s u twin p = record {
+  not_base = (or_parts _ _ p.reserved).1;
+  not_taken = p.taken;
+  is_known = p.unknown;
+  not_deep = p.deep;
+  not_many = p.too_many;
+  not_spent = p.spent;
+  has_space = less_space (free s) (with_image_of (fork_need s u) (disk_image u s)) (log_need s (Snapshot u twin)) p.space;
+}
 
 pub clone_facts : (s : Shape) (u twin : _) → IsPassed s (Clone u twin) → IsForkable s u twin
 unfolding is_reserved is_unknown is_taken is_deep is_too_many is_spent lacks_space named new_uuid forked images_needed need

@@ -12,13 +12,14 @@ use Rattle.sm_machine.specs.declared.commands.Command.{Command}
 use Rattle.sm_machine.specs.declared.commands.Command.TheVariants.{Create, Delete, Attach, Detach, Snapshot, Clone, Resize, Label, Write, Fill, Read, Flush, Gc, List as Listing, Stat}
 use Rattle.sm_machine.specs.Disks.{sector_bytes}
 use Rattle.sm_machine.specs.Shapes.{Shape, free, last_sequence, risen}
-use Rattle.sm_machine.specs.Refusals.{refusal}
+use Rattle.sm_machine.specs.Refusals.{log_need, of_log, refusal}
 use Rattle.sm_machine.specs.Collector.{collected, copied, linked, next_step, swapped}
 use Rattle.sm_machine.specs.Commits.{commits, is_given_up}
 use Rattle.sm_machine.specs.Steps.{State, accepted, unless_refused, step, given_up, shape_after, shape_next}
-use Rattle.sm_machine.specs.Tracking.{AreGoodLogs, AreUntracked, begun, disk_pieces, ended, log_commits, log_need, log_room, logs_after, of_log, tracked, tracked_step, tracked_unless, with_logs}
+use Rattle.sm_machine.specs.Tracking.{AreGoodLogs, AreUntracked, begun, disk_pieces, ended, log_commits, log_room, logs_after, tracked, tracked_step, tracked_unless, with_logs}
 use Rattle.sm_machine.specs.WellFormed.{AreDisksOf, IsWellFormed, uuid_le}
 use Rattle.sm_machine.proofs.Counted.{keeps_counted}
+use Rattle.sm_machine.proofs.LogRoom.{tracked_room}
 use Rattle.sm_machine.proofs.LogLists.{extents-on_log, extents-with_log, extents-without}
 use Rattle.sm_machine.proofs.Numbers.{risen-last, risen-up}
 use Rattle.sm_machine.proofs.Passed.{passed}
@@ -107,7 +108,7 @@ next_beside s c =
 
 pub keeps_logged : (s : Shape) (logs : List Log) (k : ℕ) → IsWellFormed s → log_extents s.logs ≤ s.others → log_extents logs ≤ log_extents s.logs + free s → IsWellFormed (with_logs logs k s)
 unfolding free
-keeps_logged s logs k w within room = keeps_counted s (risen s.sequence k) (log_extents logs + (s.others - log_extents s.logs)) logs w (risen-up s.sequence k w.sequence) (risen-last s.sequence k)
+keeps_logged s logs k w within room = keeps_counted s (risen s.sequence k) (s.others + log_extents logs - log_extents s.logs) logs w (risen-up s.sequence k w.sequence) (risen-last s.sequence k)
     (omega (arith, within, room, w.room))
 
 -- ---- how many extents the logs have after a command
@@ -142,15 +143,15 @@ tracked_keeps s c w g room =
     let same : log_extents t.logs ≡ log_extents s.logs = ap log_extents b.logs in
     keeps_logged t (logs_after s c) (log_commits s c) w (omega (arith, same, b.others, g.within)) (omega (arith, same, room, after_need s c))
 
-shape_by : (σ : State) (c : Command) (o : Option Refusal) → refusal σ.shape c ≡ o → IsWellFormed σ.shape → AreGoodLogs σ.shape → log_need σ.shape c ≤ free (shape_next σ.shape c)
+shape_by : (σ : State) (c : Command) (o : Option Refusal) → refusal σ.shape c ≡ o → IsWellFormed σ.shape → AreGoodLogs σ.shape
     → IsWellFormed ((tracked_unless o σ c).after.shape)
 unfolding accepted
-shape_by σ c (Some r) e w g room = w
-shape_by σ c None e w g room = tracked_keeps σ.shape c (next_keeps σ.shape c w (passed σ.shape c e)) g room
+shape_by σ c (Some r) e w g = w
+shape_by σ c None e w g = tracked_keeps σ.shape c (next_keeps σ.shape c w (passed σ.shape c e)) g (tracked_room σ.shape c w e)
 
-pub tracked_step_keeps_shape : (σ : State) (c : Command) → IsWellFormed σ.shape → AreGoodLogs σ.shape → log_need σ.shape c ≤ free (shape_next σ.shape c) → IsWellFormed ((tracked_step σ c).after.shape)
+pub tracked_step_keeps_shape : (σ : State) (c : Command) → IsWellFormed σ.shape → AreGoodLogs σ.shape → IsWellFormed ((tracked_step σ c).after.shape)
 unfolding tracked_step
-tracked_step_keeps_shape σ c w g room = shape_by σ c (refusal σ.shape c) refl w g room
+tracked_step_keeps_shape σ c w g = shape_by σ c (refusal σ.shape c) refl w g
 
 pub begun_shape : (s : Shape) (u : List ℕ) → IsWellFormed s → AreGoodLogs s → log_room s u ≤ free s → IsWellFormed (begun s u)
 begun_shape s u w g room = keeps_logged s (with_log (new_log u (log_room s u) (disk_pieces u s)) s.logs) 2 w g.within (omega (arith, room, extents-with_log (new_log u (log_room s u) (disk_pieces u s)) s.logs))
@@ -198,7 +199,7 @@ tracked_counted s c = counted_twice s.sequence (commits s c) (log_commits s c)
 
 -- ---- no disk is tracked
 
-none_after : (s : Shape) (c : Command) → s.logs ≡ [] → logs_after s c ≡ []
+pub none_after : (s : Shape) (c : Command) → s.logs ≡ [] → logs_after s c ≡ []
 unfolding logs_after
 none_after s (Create u size raw label) e = e
 none_after s (Delete u) e = ap (without_log u) e
@@ -234,31 +235,35 @@ none_counted s Gc e = refl
 none_counted s Listing e = refl
 none_counted s Stat e = refl
 
--- no logs in place of none change nothing
-none_logged : (t : Shape) → t.logs ≡ [] → t.sequence ≤ last_sequence → with_logs [] 0 t ≡ t
-unfolding log_extents
-none_logged t e h =
+-- a shape with the logs that it has, and no commit more
+same_logged : (t : Shape) (logs : List Log) → logs ≡ t.logs → t.sequence ≤ last_sequence → with_logs logs 0 t ≡ t
+same_logged t logs e h =
     let n : risen t.sequence 0 ≡ t.sequence = omega arith in
-    let o : log_extents [] + (t.others - log_extents t.logs) ≡ t.others = omega (arith, ap log_extents e) in
-    ap (λ (x : ℕ). record t { sequence = x; others = log_extents [] + (t.others - log_extents t.logs); logs = [] }) n
-    ∙ (ap (λ (x : ℕ). record t { others = x; logs = [] }) o ∙ ap (λ (x : List Log). record t { logs = x }) (sym e))
+    let o : t.others + log_extents t.logs - log_extents t.logs ≡ t.others = omega arith in
+    ap (λ (ls : List Log). with_logs ls 0 t) e
+    ∙ (ap (λ (x : ℕ). record t { sequence = x; others = t.others + log_extents t.logs - log_extents t.logs }) n ∙ ap (λ (x : ℕ). record t { others = x }) o)
 
-none_tracked : (s : Shape) (c : Command) → IsWellFormed (shape_next s c) → s.logs ≡ [] → tracked s c (shape_next s c) ≡ shape_next s c
-none_tracked s c w e =
+next_last : (s : Shape) (c : Command) → (shape_next s c).sequence ≤ last_sequence
+unfolding shape_next
+next_last s c = risen-last s.sequence (commits s c)
+
+same_tracked : (s : Shape) (c : Command) → logs_after s c ≡ s.logs → log_commits s c ≡ 0 → tracked s c (shape_next s c) ≡ shape_next s c
+same_tracked s c same none =
     let t = shape_next s c in
-    ap (λ (ls : List Log). with_logs ls (log_commits s c) t) (none_after s c e)
-    ∙ (ap (λ (k : ℕ). with_logs [] k t) (none_counted s c e) ∙ none_logged t ((next_beside s c).logs ∙ e) w.sequence)
+    ap (λ (k : ℕ). with_logs (logs_after s c) k t) none ∙ same_logged t (logs_after s c) (same ∙ sym (next_beside s c).logs) (next_last s c)
 
-untracked_by : (σ : State) (c : Command) (o : Option Refusal) → refusal σ.shape c ≡ o → IsWellFormed σ.shape → AreUntracked σ.shape → tracked_unless o σ c ≡ unless_refused o σ c
+unlogged_by : (σ : State) (c : Command) (o : Option Refusal) → logs_after σ.shape c ≡ σ.shape.logs → log_commits σ.shape c ≡ 0 → tracked_unless o σ c ≡ unless_refused o σ c
 unfolding accepted
-untracked_by σ c (Some r) e w none = refl
-untracked_by σ c None e w none =
-    ap (λ (t : Shape). record { reply = (accepted σ c).reply; after = record { disks = (accepted σ c).after.disks; shape = t } })
-    (none_tracked σ.shape c (next_keeps σ.shape c w (passed σ.shape c e)) none)
+unlogged_by σ c (Some r) same none = refl
+unlogged_by σ c None same none =
+    ap (λ (t : Shape). record { reply = (accepted σ c).reply; after = record { disks = (accepted σ c).after.disks; shape = t } }) (same_tracked σ.shape c same none)
 
-pub untracked_is_step : (σ : State) (c : Command) → IsWellFormed σ.shape → AreUntracked σ.shape → tracked_step σ c ≡ step σ c
+pub unlogged_is_step : (σ : State) (c : Command) → logs_after σ.shape c ≡ σ.shape.logs → log_commits σ.shape c ≡ 0 → tracked_step σ c ≡ step σ c
 unfolding tracked_step step
-untracked_is_step σ c w none = untracked_by σ c (refusal σ.shape c) refl w none
+unlogged_is_step σ c same none = unlogged_by σ c (refusal σ.shape c) same none
+
+pub untracked_is_step : (σ : State) (c : Command) → AreUntracked σ.shape → tracked_step σ c ≡ step σ c
+untracked_is_step σ c none = unlogged_is_step σ c (none_after σ.shape c none ∙ sym none) (none_counted σ.shape c none)
 
 pub untracked_good : (s : Shape) → AreUntracked s → AreGoodLogs s
 unfolding log_extents

@@ -9,16 +9,16 @@ use Rattle.common_laws.specs.Lists.{In, Distinct, Sorted, when}
 use Rattle.common_laws.proofs.Bytes.{bytes_eq-apart, bytes_eq-same, bytes_eq-refl}
 use Rattle.common_laws.proofs.Lists.{Distinct-filter, Distinct-insert, In-filter, In-insert, In-insert_new, In-map, Sorted-filter, find-none, find-some}
 use Rattle.sm_base.specs.declared.refusals.Refusal.{Refusal}
-use Rattle.sm_log.specs.Logs.{Log, is_log_of, log_before, log_of, log_sectors, on_log, with_log, without_log, begun_anew, split_of, touched, twin_log, pieces_touched, piece_count}
+use Rattle.sm_log.specs.Logs.{Log, is_log_of, log_before, log_extents, log_of, log_sectors, on_log, with_log, without_log, begun_anew, split_of, touched, twin_log, pieces_touched, piece_count}
 use Rattle.sm_log.proofs.BitLaws.{marked-long}
 use Rattle.sm_machine.specs.declared.commands.Command.{Command}
 use Rattle.sm_machine.specs.declared.commands.Command.TheVariants.{Create, Delete, Attach, Detach, Snapshot, Clone, Resize, Label, Write, Fill, Read, Flush, Gc, List as Listing, Stat}
 use Rattle.sm_machine.specs.Disks.{Disk, sector_bytes, filled, is_disk, on_disk, sectors_of_bytes, with_disk}
 use Rattle.sm_machine.specs.Shapes.{Shape, risen}
-use Rattle.sm_machine.specs.Refusals.{is_outside, is_out_of_range, refusal, rounded}
+use Rattle.sm_machine.specs.Refusals.{of_log, is_tracked, is_outside, is_out_of_range, refusal, rounded}
 use Rattle.sm_machine.specs.Commits.{commits, is_given_up, own_commits}
 use Rattle.sm_machine.specs.Steps.{State, accepted, disks_next, fork_disks, grown_disk, shape_next, written_disk}
-use Rattle.sm_machine.specs.Tracking.{AreGoodLogs, IsGoodLog, is_tracked, log_commits, logs_after, of_log, tracked, tracked_step, tracked_unless, with_logs}
+use Rattle.sm_machine.specs.Tracking.{AreGoodLogs, IsGoodLog, log_commits, logs_after, tracked, tracked_step, tracked_unless, with_logs}
 use Rattle.sm_machine.specs.WellFormed.{AreDisksOf, HasRecord, IsWellFormed, uuid_le}
 use Rattle.sm_machine.proofs.Fresh
 use Rattle.sm_machine.proofs.Forks.{IsForkable}
@@ -135,6 +135,9 @@ module _ (s : Shape) (w : IsWellFormed s) (g : AreGoodLogs s) (c : Command) (p :
   since_counted : (k : ℕ) (l : Log) → In l s.logs → l.since < risen t.sequence k
   since_counted k l h = omega (arith, (g.good l h).since, not_lower_counted k)
 
+  room_next : log_extents t.logs ≤ t.others
+  room_next = let e : log_extents t.logs ≡ log_extents s.logs = ap log_extents beside.logs in omega (arith, e, beside.others, g.within)
+
   -- the logs are as they were
   same_logs : StayFor s.logs → AreGoodLogs (with_logs s.logs 0 t)
   same_logs stay = record {
@@ -142,7 +145,7 @@ module _ (s : Shape) (w : IsWellFormed s) (g : AreGoodLogs s) (c : Command) (p :
     one_log = g.one_log;
     good = λ l h. like_good s.logs 0 l l h (record { disk = refl; extents = refl; tag = refl; long = refl }) (since_counted 0 l h) (λ d. stay l d h);
     one_tag = g.one_tag;
-    within = omega arith;
+    within = omega (arith, room_next);
   }
 
   -- bits of a disk's log are set
@@ -157,7 +160,7 @@ module _ (s : Shape) (w : IsWellFormed s) (g : AreGoodLogs s) (c : Command) (p :
             subst (IsGoodLog (with_logs (on_log u f s.logs) 0 t)) (sym x.2)
             (like_good (on_log u f s.logs) 0 x.0 (when (is_log_of u x.0) f x.0) x.1 (like_when f gentle (is_log_of u x.0) x.0) (since_same (is_log_of u x.0) x.0 (since_counted 0 x.0 x.1)) (λ d. stay x.0 d x.1)));
         one_tag = tags_same u f gentle s.logs g.one_tag;
-        within = omega arith;
+        within = omega (arith, room_next);
       }
     where
       since_same : (b : Bool) (l : Log) → l.since < risen t.sequence 0 → (when b (touched sector count) l).since < risen t.sequence 0
@@ -174,7 +177,7 @@ module _ (s : Shape) (w : IsWellFormed s) (g : AreGoodLogs s) (c : Command) (p :
         one_log = Distinct-filter (λ (l : Log). l.disk) kept s.logs g.one_log;
         good = λ l h. like_good (without_log u s.logs) k l l (old l h) (record { disk = refl; extents = refl; tag = refl; long = refl }) (since_counted k l (old l h)) (λ d. stay l d h);
         one_tag = λ a b h i. g.one_tag a b (old a h) (old b i);
-        within = omega arith;
+        within = omega (arith, room_next);
       }
 
 -- ---- a snapshot
@@ -305,13 +308,19 @@ module _ (s : Shape) (w : IsWellFormed s) (g : AreGoodLogs s) (u twin : List ℕ
     unfolding with_log
     once_all = Distinct-insert (λ (l : Log). l.disk) log_before mine (on_log u anew s.logs) (once_same u anew (anew_gentle s.sequence) s.logs g.one_log) twin_new
 
+    room_forked : log_extents forked.logs ≤ forked.others
+    room_forked =
+        let n : IsBeside s forked = next_beside s (Snapshot u twin) in
+        let e : log_extents forked.logs ≡ log_extents s.logs = ap log_extents n.logs in
+        omega (arith, e, n.others, g.within)
+
     split_logs : AreGoodLogs now
     split_logs = record {
       in_order = sorted-with_log mine (on_log u anew s.logs) (order_same u anew (anew_gentle s.sequence) s.logs g.in_order);
       one_log = once_all;
       good = each_good;
       one_tag = one_tag_all;
-      within = omega arith;
+      within = omega (arith, room_forked);
     }
 
   split_good : (o : Option Log) → log_of u s.logs ≡ o → AreGoodLogs (with_logs (split_of u twin s.sequence o s.logs) (of_log (λ (l : Log). 2) o) forked)
@@ -339,33 +348,33 @@ module _ (s : Shape) (w : IsWellFormed s) (g : AreGoodLogs s) where
   write_stays : (u : List ℕ) (sector count : ℕ) (sectors : List (List ℕ)) → length sectors ≡ count → is_outside s u sector count ≡ false → (d : Disk) → In d (blanks s) → Stays (on_disk u (written_disk sector sectors) (blanks s)) d
   write_stays u sector count sectors n e d i = stays_changed u (written_disk sector sectors) (blanks s) d i (λ same. written_keeps sector count sectors d n (within (blanks s) s w (are_blanks s w) u sector count e d i same))
 
-  pub tracked_good : (c : Command) → IsPassed s c → is_tracked s c ≡ false → AreGoodLogs (tracked s c (shape_next s c))
+  pub tracked_good : (c : Command) → IsPassed s c → AreGoodLogs (tracked s c (shape_next s c))
   unfolding logs_after log_commits is_tracked is_out_of_range disks_next
-  tracked_good (Create u size raw label) p e = same_logs s w g (Create u size raw label) p (λ l d h i q. stays_beside _ (blanks s) d i)
-  tracked_good (Delete u) p e = fewer_logs s w g (Delete u) p u (of_log (λ (l : Log). 1) (log_of u s.logs))
+  tracked_good (Create u size raw label) p = same_logs s w g (Create u size raw label) p (λ l d h i q. stays_beside _ (blanks s) d i)
+  tracked_good (Delete u) p = fewer_logs s w g (Delete u) p u (of_log (λ (l : Log). 1) (log_of u s.logs))
       (λ l d h i q. stays_kept (λ (d : Disk). not (is_disk u d)) (blanks s) d i (ap not (bytes_eq-apart d.uuid u (λ same. apart u s.logs l h (sym q ∙ same)))))
-  tracked_good (Attach u mode) p e = same_logs s w g (Attach u mode) p (λ l d h i q. stays_same (blanks s) d i)
-  tracked_good (Detach u) p e = same_logs s w g (Detach u) p (λ l d h i q. stays_same (blanks s) d i)
-  tracked_good (Snapshot u twin) p e = split_good s w g u twin p (log_of u s.logs) refl
-  tracked_good (Clone u twin) p e = same_logs s w g (Clone u twin) p (λ l d h i q. stays_forked u twin false (find (is_disk u) (blanks s)) (blanks s) d i)
-  tracked_good (Resize u size) p e = same_logs s w g (Resize u size) p
-      (λ l d h i q. stays_changed u (grown_disk (rounded s false size)) (blanks s) d i (λ same. absurd (no_log u s.logs l (none_of (log_of u s.logs) e) h (sym q ∙ same))))
-  tracked_good (Label u text) p e = same_logs s w g (Label u text) p (λ l d h i q. stays_changed u (λ (d : Disk). record d { label = text }) (blanks s) d i (λ same. record { uuid = refl; long = refl; read_only = refl }))
-  tracked_good (Write u sector bytes) p e = touched_logs s w g (Write u sector bytes) p u sector (length bytes / sector_bytes)
+  tracked_good (Attach u mode) p = same_logs s w g (Attach u mode) p (λ l d h i q. stays_same (blanks s) d i)
+  tracked_good (Detach u) p = same_logs s w g (Detach u) p (λ l d h i q. stays_same (blanks s) d i)
+  tracked_good (Snapshot u twin) p = split_good s w g u twin p (log_of u s.logs) refl
+  tracked_good (Clone u twin) p = same_logs s w g (Clone u twin) p (λ l d h i q. stays_forked u twin false (find (is_disk u) (blanks s)) (blanks s) d i)
+  tracked_good (Resize u size) p = same_logs s w g (Resize u size) p
+      (λ l d h i q. stays_changed u (grown_disk (rounded s false size)) (blanks s) d i (λ same. absurd (no_log u s.logs l (none_of (log_of u s.logs) p.tracked) h (sym q ∙ same))))
+  tracked_good (Label u text) p = same_logs s w g (Label u text) p (λ l d h i q. stays_changed u (λ (d : Disk). record d { label = text }) (blanks s) d i (λ same. record { uuid = refl; long = refl; read_only = refl }))
+  tracked_good (Write u sector bytes) p = touched_logs s w g (Write u sector bytes) p u sector (length bytes / sector_bytes)
       (λ l d h i q. write_stays u sector (length bytes / sector_bytes) (sectors_of_bytes bytes) (length-cut (length bytes / sector_bytes) bytes) (or_parts (is_outside s u sector (length bytes / sector_bytes)) _ p.out_of_range).0 d i)
-  tracked_good (Fill u sector count byte) p e = touched_logs s w g (Fill u sector count byte) p u sector count
+  tracked_good (Fill u sector count byte) p = touched_logs s w g (Fill u sector count byte) p u sector count
       (λ l d h i q. write_stays u sector count (filled count byte) (length-replicate count _) p.out_of_range d i)
-  tracked_good (Read u sector count) p e = same_logs s w g (Read u sector count) p (λ l d h i q. stays_same (blanks s) d i)
-  tracked_good (Flush u) p e = same_logs s w g (Flush u) p (λ l d h i q. stays_same (blanks s) d i)
-  tracked_good Gc p e = same_logs s w g Gc p (λ l d h i q. stays_same (blanks s) d i)
-  tracked_good Listing p e = same_logs s w g Listing p (λ l d h i q. stays_same (blanks s) d i)
-  tracked_good Stat p e = same_logs s w g Stat p (λ l d h i q. stays_same (blanks s) d i)
+  tracked_good (Read u sector count) p = same_logs s w g (Read u sector count) p (λ l d h i q. stays_same (blanks s) d i)
+  tracked_good (Flush u) p = same_logs s w g (Flush u) p (λ l d h i q. stays_same (blanks s) d i)
+  tracked_good Gc p = same_logs s w g Gc p (λ l d h i q. stays_same (blanks s) d i)
+  tracked_good Listing p = same_logs s w g Listing p (λ l d h i q. stays_same (blanks s) d i)
+  tracked_good Stat p = same_logs s w g Stat p (λ l d h i q. stays_same (blanks s) d i)
 
-good_by : (σ : State) (c : Command) (o : Option Refusal) → refusal σ.shape c ≡ o → IsWellFormed σ.shape → AreGoodLogs σ.shape → is_tracked σ.shape c ≡ false → AreGoodLogs ((tracked_unless o σ c).after.shape)
+good_by : (σ : State) (c : Command) (o : Option Refusal) → refusal σ.shape c ≡ o → IsWellFormed σ.shape → AreGoodLogs σ.shape → AreGoodLogs ((tracked_unless o σ c).after.shape)
 unfolding accepted
-good_by σ c (Some r) e w g t = g
-good_by σ c None e w g t = tracked_good σ.shape w g c (passed σ.shape c e) t
+good_by σ c (Some r) e w g = g
+good_by σ c None e w g = tracked_good σ.shape w g c (passed σ.shape c e)
 
-pub tracked_step_keeps_logs : (σ : State) (c : Command) → IsWellFormed σ.shape → AreGoodLogs σ.shape → is_tracked σ.shape c ≡ false → AreGoodLogs ((tracked_step σ c).after.shape)
+pub tracked_step_keeps_logs : (σ : State) (c : Command) → IsWellFormed σ.shape → AreGoodLogs σ.shape → AreGoodLogs ((tracked_step σ c).after.shape)
 unfolding tracked_step
-tracked_step_keeps_logs σ c w g t = good_by σ c (refusal σ.shape c) refl w g t
+tracked_step_keeps_logs σ c w g = good_by σ c (refusal σ.shape c) refl w g

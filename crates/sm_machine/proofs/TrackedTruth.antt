@@ -19,10 +19,10 @@ use Rattle.sm_machine.specs.declared.commands.Command.{Command}
 use Rattle.sm_machine.specs.declared.commands.Command.TheVariants.{Create, Delete, Attach, Detach, Snapshot, Clone, Resize, Label, Write, Fill, Read, Flush, Gc, List as Listing, Stat}
 use Rattle.sm_machine.specs.Disks.{Disk, filled, is_disk, on_disk, overwritten, sector_bytes, sectors_of_bytes, with_disk}
 use Rattle.sm_machine.specs.Shapes.{Shape, Attachment, DiskRecord, attached_as, is_ro}
-use Rattle.sm_machine.specs.Refusals.{is_not_attached, is_outside, is_out_of_range, is_read_only, is_taken, new_uuid, refusal, rounded}
+use Rattle.sm_machine.specs.Refusals.{is_tracked, is_not_attached, is_outside, is_out_of_range, is_read_only, is_taken, new_uuid, refusal, rounded}
 use Rattle.sm_machine.specs.Runs.{HasSector}
 use Rattle.sm_machine.specs.Steps.{State, accepted, disks_next, fork_disks, grown_disk, written_disk}
-use Rattle.sm_machine.specs.Tracking.{AreGoodLogs, begun, disk_pieces, ended, is_tracked, log_room, logs_after, tracked_step, tracked_unless}
+use Rattle.sm_machine.specs.Tracking.{AreGoodLogs, begun, disk_pieces, ended, log_room, logs_after, tracked_step, tracked_unless}
 use Rattle.sm_machine.specs.WellFormed.{AreDisksOf, HasRecord, IsWellFormed, record_of}
 use Rattle.sm_machine.proofs.Forks.{IsForkable, recorded}
 use Rattle.sm_machine.proofs.Fresh
@@ -260,35 +260,35 @@ module _ (disks : List Disk) (s : Shape) (w : IsWellFormed s) (a : AreDisksOf di
   none_of None e = refl
   none_of (Some l) e = cc
 
-  next_tells : (c : Command) → IsPassed s c → is_tracked s c ≡ false → Tells (HasSector (disks_next disks s c)) (logs_after s c)
+  next_tells : (c : Command) → IsPassed s c → Tells (HasSector (disks_next disks s c)) (logs_after s c)
   unfolding disks_next logs_after is_tracked is_out_of_range is_not_attached is_read_only is_taken new_uuid
-  next_tells (Create u size raw label) p e = elsewhere _ (λ l h. had_beside _ disks l.disk (no_disk u (Fresh.no_record s w u p.taken) l h))
-  next_tells (Delete u) p e = tells_elsewhere (HasSector disks) _ s.logs (without_log u s.logs) tells (λ l h. (In-filter (λ (x : Log). not (is_log_of u x)) s.logs l h).0) (λ l k x h. had_filter u disks l.disk k x)
-  next_tells (Attach u mode) p e = tells
-  next_tells (Detach u) p e = tells
-  next_tells (Snapshot u twin) p e = split_tells u twin (snapshot_facts s u twin p)
-  next_tells (Clone u twin) p e = elsewhere _ (λ l h. had_forked u twin false (find (is_disk u) disks) disks l.disk (no_disk twin (Fresh.no_record s w twin (clone_facts s u twin p).not_taken) l h))
-  next_tells (Resize u size) p e = elsewhere _ (λ l h. had_other u (grown_disk (rounded s false size)) (λ d. refl) disks l.disk (λ q. no_log u s.logs l (none_of (log_of u s.logs) e) h (sym q)))
-  next_tells (Label u text) p e = elsewhere _ (λ l h. had_same u (λ (d : Disk). record d { label = text }) (λ d. (refl, refl)) disks l.disk)
-  next_tells (Write u sector bytes) p e = write_tells u sector (length bytes / sector_bytes) (sectors_of_bytes bytes) (length-cut (length bytes / sector_bytes) bytes)
+  next_tells (Create u size raw label) p = elsewhere _ (λ l h. had_beside _ disks l.disk (no_disk u (Fresh.no_record s w u p.taken) l h))
+  next_tells (Delete u) p = tells_elsewhere (HasSector disks) _ s.logs (without_log u s.logs) tells (λ l h. (In-filter (λ (x : Log). not (is_log_of u x)) s.logs l h).0) (λ l k x h. had_filter u disks l.disk k x)
+  next_tells (Attach u mode) p = tells
+  next_tells (Detach u) p = tells
+  next_tells (Snapshot u twin) p = split_tells u twin (snapshot_facts s u twin p)
+  next_tells (Clone u twin) p = elsewhere _ (λ l h. had_forked u twin false (find (is_disk u) disks) disks l.disk (no_disk twin (Fresh.no_record s w twin (clone_facts s u twin p).not_taken) l h))
+  next_tells (Resize u size) p = elsewhere _ (λ l h. had_other u (grown_disk (rounded s false size)) (λ d. refl) disks l.disk (λ q. no_log u s.logs l (none_of (log_of u s.logs) p.tracked) h (sym q)))
+  next_tells (Label u text) p = elsewhere _ (λ l h. had_same u (λ (d : Disk). record d { label = text }) (λ d. (refl, refl)) disks l.disk)
+  next_tells (Write u sector bytes) p = write_tells u sector (length bytes / sector_bytes) (sectors_of_bytes bytes) (length-cut (length bytes / sector_bytes) bytes)
       (or_parts (is_outside s u sector (length bytes / sector_bytes)) _ p.out_of_range).0 p.not_attached p.read_only
-  next_tells (Fill u sector count byte) p e = write_tells u sector count (filled count byte) (length-replicate count _) p.out_of_range p.not_attached p.read_only
-  next_tells (Read u sector count) p e = tells
-  next_tells (Flush u) p e = tells
-  next_tells Gc p e = tells
-  next_tells Listing p e = tells
-  next_tells Stat p e = tells
+  next_tells (Fill u sector count byte) p = write_tells u sector count (filled count byte) (length-replicate count _) p.out_of_range p.not_attached p.read_only
+  next_tells (Read u sector count) p = tells
+  next_tells (Flush u) p = tells
+  next_tells Gc p = tells
+  next_tells Listing p = tells
+  next_tells Stat p = tells
 
-tells_by : (σ : State) (c : Command) (o : Option Refusal) → refusal σ.shape c ≡ o → IsWellFormed σ.shape → AreDisksOf σ.disks σ.shape → AreGoodLogs σ.shape → is_tracked σ.shape c ≡ false
+tells_by : (σ : State) (c : Command) (o : Option Refusal) → refusal σ.shape c ≡ o → IsWellFormed σ.shape → AreDisksOf σ.disks σ.shape → AreGoodLogs σ.shape
     → Tells (HasSector σ.disks) σ.shape.logs → Tells (HasSector ((tracked_unless o σ c).after.disks)) ((tracked_unless o σ c).after.shape.logs)
 unfolding accepted
-tells_by σ c (Some r) e w a g t tells = tells
-tells_by σ c None e w a g t tells = next_tells σ.disks σ.shape w a g tells c (passed σ.shape c e) t
+tells_by σ c (Some r) e w a g tells = tells
+tells_by σ c None e w a g tells = next_tells σ.disks σ.shape w a g tells c (passed σ.shape c e)
 
-pub tracked_step_tells : (σ : State) (c : Command) → IsWellFormed σ.shape → AreDisksOf σ.disks σ.shape → AreGoodLogs σ.shape → is_tracked σ.shape c ≡ false
+pub tracked_step_tells : (σ : State) (c : Command) → IsWellFormed σ.shape → AreDisksOf σ.disks σ.shape → AreGoodLogs σ.shape
     → Tells (HasSector σ.disks) σ.shape.logs → Tells (HasSector ((tracked_step σ c).after.disks)) ((tracked_step σ c).after.shape.logs)
 unfolding tracked_step
-tracked_step_tells σ c w a g t tells = tells_by σ c (refusal σ.shape c) refl w a g t tells
+tracked_step_tells σ c w a g tells = tells_by σ c (refusal σ.shape c) refl w a g tells
 
 -- ---- tracking begins, and ends
 

@@ -20,8 +20,8 @@ use Rattle.sm_machine.specs.Collector.{next_step, is_garbage, is_loose, pairs, l
 use Rattle.sm_machine.specs.Runs.{HasSector}
 use Rattle.sm_machine.specs.Steps.{State, is_attached, shape_next, step}
 use Rattle.sm_machine.specs.Commits.{commits}
-use Rattle.sm_machine.specs.Refusals.{need, refusal}
-use Rattle.sm_machine.specs.Tracking.{AreGoodLogs, AreUntracked, begun, ended, is_tracked, log_commits, log_need, log_room, tracked, tracked_step}
+use Rattle.sm_machine.specs.Refusals.{log_need, refusal}
+use Rattle.sm_machine.specs.Tracking.{AreGoodLogs, AreUntracked, begun, ended, log_commits, log_room, logs_after, tracked, tracked_step}
 use Rattle.sm_machine.specs.WellFormed.{AreDisksOf, HasRecord, IsOperation, IsSize, IsWellFormed}
 
 -- a refused command changes neither disks nor shape
@@ -138,23 +138,22 @@ pub record UsesFollow : Type 0 where
 
 -- ---- logs
 
--- a step with what it does to logs keeps a shape well-formed, where a snapshot's log finds room behind its images
+-- a step with what it does to logs keeps a shape well-formed
 abbrev pub TrackedStepKeepsShape : Type 0
-TrackedStepKeepsShape = (σ : State) (c : Command) → IsWellFormed σ.shape → AreGoodLogs σ.shape → log_need σ.shape c ≤ free (shape_next σ.shape c)
-    → IsWellFormed ((tracked_step σ c).after.shape)
+TrackedStepKeepsShape = (σ : State) (c : Command) → IsWellFormed σ.shape → AreGoodLogs σ.shape → IsWellFormed ((tracked_step σ c).after.shape)
 
--- a snapshot's log finds room where the extents are free that a command takes for images and logs together
+-- a snapshot's log finds room behind its images
 abbrev pub TrackedRoom : Type 0
-TrackedRoom = (s : Shape) (c : Command) → IsWellFormed s → refusal s c ≡ None → need s c + log_need s c ≤ free s → log_need s c ≤ free (shape_next s c)
+TrackedRoom = (s : Shape) (c : Command) → IsWellFormed s → refusal s c ≡ None → log_need s c ≤ free (shape_next s c)
 
--- a step with what it does to logs keeps them good, where no tracked disk gets another size
+-- a step with what it does to logs keeps them good
 abbrev pub TrackedStepKeepsLogs : Type 0
-TrackedStepKeepsLogs = (σ : State) (c : Command) → IsWellFormed σ.shape → AreGoodLogs σ.shape → is_tracked σ.shape c ≡ false → AreGoodLogs ((tracked_step σ c).after.shape)
+TrackedStepKeepsLogs = (σ : State) (c : Command) → IsWellFormed σ.shape → AreGoodLogs σ.shape → AreGoodLogs ((tracked_step σ c).after.shape)
 
 -- a step with what it does to logs keeps true what these tell of disks: where sectors of two disks differ, of which one was begun where the
 -- other was taken, the later one's log names the piece
 abbrev pub TrackedStepTells : Type 0
-TrackedStepTells = (σ : State) (c : Command) → IsWellFormed σ.shape → AreDisksOf σ.disks σ.shape → AreGoodLogs σ.shape → is_tracked σ.shape c ≡ false
+TrackedStepTells = (σ : State) (c : Command) → IsWellFormed σ.shape → AreDisksOf σ.disks σ.shape → AreGoodLogs σ.shape
     → Tells (HasSector σ.disks) σ.shape.logs → Tells (HasSector ((tracked_step σ c).after.disks)) ((tracked_step σ c).after.shape.logs)
 
 -- a step with what it does to logs keeps disks and shape together
@@ -162,12 +161,13 @@ abbrev pub TrackedStepKeepsDisks : Type 0
 TrackedStepKeepsDisks = (σ : State) (c : Command) → IsWellFormed σ.shape → AreDisksOf σ.disks σ.shape
     → AreDisksOf ((tracked_step σ c).after.disks) ((tracked_step σ c).after.shape)
 
--- a step with what it does to logs: disks and reply are those of the step without, and so is all of it where no disk is tracked; a refused
--- command changes nothing; the commits of both are counted
+-- a step with what it does to logs: disks and reply are those of the step without, and so is all of it where logs stay and no commit is made
+-- for one, as where no disk is tracked; a refused command changes nothing; the commits of both are counted
 pub record TrackedStepFollows : Type 0 where
   pub disks : (σ : State) (c : Command) → (tracked_step σ c).after.disks ≡ (step σ c).after.disks
   pub answer : (σ : State) (c : Command) → (tracked_step σ c).reply ≡ (step σ c).reply
-  pub untracked : (σ : State) (c : Command) → IsWellFormed σ.shape → AreUntracked σ.shape → tracked_step σ c ≡ step σ c
+  pub unlogged : (σ : State) (c : Command) → logs_after σ.shape c ≡ σ.shape.logs → log_commits σ.shape c ≡ 0 → tracked_step σ c ≡ step σ c
+  pub untracked : (σ : State) (c : Command) → AreUntracked σ.shape → tracked_step σ c ≡ step σ c
   pub refused : (σ : State) (c : Command) (r : Refusal) → (tracked_step σ c).reply ≡ reply.No r → (tracked_step σ c).after ≡ σ
   pub counted : (s : Shape) (c : Command) → (tracked s c (shape_next s c)).sequence ≡ risen s.sequence (commits s c + log_commits s c)
 

@@ -7,10 +7,11 @@ use Rattle.sm_base.specs.Names.{is_base}
 use Rattle.sm_base.specs.Numbers.{div_up}
 use Rattle.sm_base.specs.declared.operations.Mode.TheVariants.{Rw}
 use Rattle.sm_base.specs.declared.refusals.Refusal.{Refusal}
-use Rattle.sm_base.specs.declared.refusals.Refusal.TheVariants.{ReservedName, UnknownDisk, NameTaken, InUse, NotAttached, ReadOnly, RawDisk, OutOfRange, BadSize, Shrink, ChainTooLong, TooMany, SequenceSpent, NoSpace}
+use Rattle.sm_base.specs.declared.refusals.Refusal.TheVariants.{ReservedName, UnknownDisk, NameTaken, InUse, NotAttached, ReadOnly, RawDisk, Tracked, OutOfRange, BadSize, Shrink, ChainTooLong, TooMany, SequenceSpent, NoSpace}
 use Rattle.sm_machine.specs.declared.commands.Command.{Command}
 use Rattle.sm_machine.specs.declared.commands.Command.TheVariants.{Create, Delete, Attach, Detach, Snapshot, Clone, Resize, Label, Write, Fill, Read, Flush, Gc, List as Listing, Stat}
 use Rattle.common_laws.specs.Lists.{first_some, given}
+use Rattle.sm_log.specs.Logs.{Log, log_of}
 use Rattle.sm_machine.specs.Disks.{sector_bytes}
 use Rattle.sm_machine.specs.Shapes.{Shape, ImageRow, image_uuid, is_vhd, disk_image, disk_record, attached_as, is_ro, is_rw, chain, chain_limit, image_limit, read_limit, thin_in, thick_in, free}
 
@@ -98,6 +99,11 @@ unfoldable pub is_raw_disk : Shape → Command → Bool
 is_raw_disk s (Resize u size) = of_some (λ i. not (is_vhd i.name)) (disk_image u s)
 is_raw_disk s _ = false
 
+-- resize: the disk is tracked
+unfoldable pub is_tracked : Shape → Command → Bool
+is_tracked s (Resize u size) = is_some (log_of u s.logs)
+is_tracked s _ = false
+
 -- so many sectors from one on are none, or not all within the disk
 abbrev pub is_outside : Shape → List ℕ → ℕ → ℕ → Bool
 is_outside s u sector count = (count == 0) || of_some (λ i. nat_lt i.size (sector + count)) (disk_image u s)
@@ -183,12 +189,22 @@ abbrev pub new_extents : Shape → Bool → ℕ → ℕ
 new_extents s true bytes = div_up bytes (sector_bytes * s.extent)
 new_extents s false bytes = thin_in s 0
 
--- the extents that a command takes
+-- a number that is told of a disk's log, 0 where it has none
+abbrev pub of_log : (Log → ℕ) → Option Log → ℕ
+of_log f None = 0
+of_log f (Some l) = f l
+
+-- the extents that a command takes for logs: a snapshot's log takes as many as its disk's has
+unfoldable pub log_need : Shape → Command → ℕ
+log_need s (Snapshot u twin) = of_log (λ l. l.extents) (log_of u s.logs)
+log_need s _ = 0
+
+-- the extents that a command takes; those of a snapshot's log too
 unfoldable pub need : Shape → Command → ℕ
 need s (Create u size raw label) = new_extents s raw size
 need s (Attach u Rw) = with_image_of (lacking s) (disk_image u s)
 need s (Resize u size) = with_image_of (lacking_larger s u (rounded s false size)) (disk_image u s)
-need s (Snapshot u twin) = with_image_of (fork_need s u) (disk_image u s)
+need s (Snapshot u twin) = with_image_of (fork_need s u) (disk_image u s) + log_need s (Snapshot u twin)
 need s (Clone u twin) = with_image_of (fork_need s u) (disk_image u s)
 need s _ = 0
 
@@ -209,6 +225,7 @@ refusal s c = first_some (given (is_reserved c) ReservedName
     ∷ given (is_not_attached s c) NotAttached
     ∷ given (is_read_only s c) ReadOnly
     ∷ given (is_raw_disk s c) RawDisk
+    ∷ given (is_tracked s c) Tracked
     ∷ given (is_out_of_range s c) OutOfRange
     ∷ given (is_bad_size s c) BadSize
     ∷ given (is_shrink s c) Shrink

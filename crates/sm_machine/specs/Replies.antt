@@ -12,7 +12,7 @@ use Rattle.sm_base.specs.declared.operations.Op.TheVariants as op
 use Rattle.sm_base.specs.declared.operations.Plan.{Plan}
 use Rattle.sm_base.specs.declared.operations.Plan.TheVariants as plan
 use Rattle.sm_base.specs.declared.refusals.Refusal.{Refusal}
-use Rattle.sm_base.specs.declared.refusals.Refusal.TheVariants.{BadLine, ReservedName, UnknownDisk, NameTaken, InUse, NotAttached, ReadOnly, RawDisk, OutOfRange, BadSize, Shrink, ChainTooLong, TooMany, SequenceSpent, NoSpace, NoMemory, Differencing, BadFile, Cut}
+use Rattle.sm_base.specs.declared.refusals.Refusal.TheVariants.{BadLine, ReservedName, UnknownDisk, NameTaken, InUse, NotAttached, ReadOnly, RawDisk, Tracked, OutOfRange, BadSize, Shrink, ChainTooLong, TooMany, SequenceSpent, NoSpace, NoMemory, Differencing, BadFile, Cut}
 use Rattle.sm_machine.specs.Stats.{Stats}
 use Rattle.sm_machine.specs.declared.replies.DiskRow.{DiskRow}
 use Rattle.sm_machine.specs.declared.replies.StatRow.{StatRow}
@@ -106,6 +106,7 @@ refusal_parts InUse = codes "InUse" ∷ []
 refusal_parts NotAttached = codes "NotAttached" ∷ []
 refusal_parts ReadOnly = codes "ReadOnly" ∷ []
 refusal_parts RawDisk = codes "RawDisk" ∷ []
+refusal_parts Tracked = codes "Tracked" ∷ []
 refusal_parts OutOfRange = codes "OutOfRange" ∷ []
 refusal_parts BadSize = codes "BadSize" ∷ []
 refusal_parts Shrink = codes "Shrink" ∷ []

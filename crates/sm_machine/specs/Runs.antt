@@ -12,7 +12,8 @@ use Rattle.sm_machine.specs.Lines.{spelled}
 use Rattle.common_laws.specs.Lists.{In}
 use Rattle.sm_machine.specs.Replies.{printed}
 use Rattle.sm_machine.specs.Disks.{Disk}
-use Rattle.sm_machine.specs.Steps.{State, Outcome, refused, step_line}
+use Rattle.sm_machine.specs.Steps.{State, Outcome, refused}
+use Rattle.sm_machine.specs.Tracking.{step_line}
 
 -- one line of a run: its bytes, and whether it was answered with want of memory
 pub record Turn : Type 0 where

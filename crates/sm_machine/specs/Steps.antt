@@ -1,5 +1,5 @@
--- One step of the machine: a command turns disks and shape into a reply, new disks and a new shape (this project's
--- format). A refused command changes nothing. Want of memory is no answer of the machine: a line that finds no memory is
+-- One step of the machine, but for what it does to logs: a command turns disks and shape into a reply, new disks and a new shape (this
+-- project's format). A refused command changes nothing. Want of memory is no answer of the machine: a line that finds no memory is
 -- one that the machine has not stepped on.
 use Rattle.std.specs.Prelude.{ℕ, ◌+◌, ◌-◌, ◌*◌, ◌/◌, not, Bool, true, false, List, [], ◌∷◌, ◌++◌, length, map, replicate, Option, Some, None}
 use Rattle.std.specs.List.{filter, find}
@@ -12,7 +12,6 @@ use Rattle.sm_base.specs.declared.operations.Mode.TheVariants.{Ro, Rw}
 use Rattle.sm_machine.specs.Operations.{Op}
 use Rattle.sm_machine.specs.Operations as op
 use Rattle.sm_base.specs.declared.refusals.Refusal.{Refusal}
-use Rattle.sm_base.specs.declared.refusals.Refusal.TheVariants.{BadLine}
 use Rattle.sm_machine.specs.declared.commands.Command.{Command}
 use Rattle.sm_machine.specs.declared.commands.Command.TheVariants.{Create, Delete, Attach, Detach, Snapshot, Clone, Resize, Label, Write, Fill, Read, Flush, Gc, List as Listing, Stat}
 use Rattle.sm_machine.specs.declared.replies.DiskRow.{DiskRow}
@@ -20,7 +19,6 @@ use Rattle.sm_machine.specs.declared.replies.StatRow.{StatRow}
 use Rattle.sm_machine.specs.declared.replies.Reply.{Reply}
 use Rattle.sm_machine.specs.declared.replies.Reply.TheVariants as reply
 use Rattle.sm_machine.specs.Stats.{Stats}
-use Rattle.sm_machine.specs.Lines.{spelled}
 use Rattle.common_laws.specs.Lists.{change, insert_by, numbers}
 use Rattle.sm_machine.specs.Operations.{dirtied, told}
 use Rattle.sm_machine.specs.Disks.{Disk, sector_bytes, uuid_before, filled, sectors_of_bytes, overwritten, bytes_at, is_disk, with_disk, on_disk}
@@ -239,14 +237,6 @@ abbrev pub unless_refused : Option Refusal → State → Command → Outcome
 unless_refused (Some r) σ c = refused σ r
 unless_refused None σ c = accepted σ c
 
--- the step of a command
+-- the step of a command, without what it does to logs
 unfoldable pub step : State → Command → Outcome
 step σ c = unless_refused (refusal σ.shape c) σ c
-
-abbrev pub step_or_bad : Option Command → State → Outcome
-step_or_bad None σ = refused σ BadLine
-step_or_bad (Some c) σ = step σ c
-
--- the step of a line
-unfoldable pub step_line : State → List ℕ → Outcome
-step_line σ line = step_or_bad (spelled line) σ

@@ -1,22 +1,19 @@
--- What happens to the logs of tracked disks (this project's own). A log's volume is none of an image: its extents are among the
--- others' of a shape. What a command does to the logs comes on top of its step.
-use Rattle.std.specs.Prelude.{◌≡◌, ◌≢◌, ℕ, ◌+◌, ◌-◌, ◌*◌, ◌/◌, ◌<◌, ◌≤◌, Bool, true, false, List, [], length, map, Option, Some, None, is_some}
+-- What happens to the logs of tracked disks, and with it the step of a line (this project's own). A log's volume is none of an image: its
+-- extents are among the others' of a shape. What a command does to the logs comes on top of its step.
+use Rattle.std.specs.Prelude.{◌≡◌, ◌≢◌, ℕ, ◌+◌, ◌-◌, ◌*◌, ◌/◌, ◌<◌, ◌≤◌, true, List, [], length, map, Option, Some, None}
 use Rattle.sm_base.specs.Numbers.{div_up}
 use Rattle.sm_base.specs.declared.refusals.Refusal.{Refusal}
+use Rattle.sm_base.specs.declared.refusals.Refusal.TheVariants.{BadLine}
 use Rattle.common_laws.specs.Lists.{In, Distinct, Sorted}
 use Rattle.sm_log.specs.Logs.{Log, piece_count, log_sectors, log_of, with_log, without_log, on_log, log_extents, new_log, touched, split}
 use Rattle.sm_machine.specs.declared.commands.Command.{Command}
 use Rattle.sm_machine.specs.declared.commands.Command.TheVariants.{Create, Delete, Attach, Detach, Snapshot, Clone, Resize, Label, Write, Fill, Read, Flush, Gc, List as Listing, Stat}
 use Rattle.sm_machine.specs.Disks.{sector_bytes}
 use Rattle.sm_machine.specs.Shapes.{Shape, ImageRow, disk_image, risen}
-use Rattle.sm_machine.specs.Refusals.{is_snapshot, refusal, with_image_of}
+use Rattle.sm_machine.specs.Lines.{spelled}
+use Rattle.sm_machine.specs.Refusals.{is_snapshot, of_log, refusal, with_image_of}
 use Rattle.sm_machine.specs.Steps.{State, Outcome, accepted, refused}
 use Rattle.sm_machine.specs.WellFormed.{HasRecord, uuid_le}
-
--- a number that is told of a disk's log, 0 where it has none
-abbrev pub of_log : (Log → ℕ) → Option Log → ℕ
-of_log f None = 0
-of_log f (Some l) = f l
 
 -- ---- what a command does to logs
 
@@ -57,23 +54,13 @@ log_commits s Gc = 0
 log_commits s Listing = 0
 log_commits s Stat = 0
 
--- the extents that a command takes for logs: a snapshot's log takes as many as its disk's has
-unfoldable pub log_need : Shape → Command → ℕ
-log_need s (Snapshot u twin) = of_log (λ l. l.extents) (log_of u s.logs)
-log_need s _ = 0
-
--- resize: the disk is tracked
-unfoldable pub is_tracked : Shape → Command → Bool
-is_tracked s (Resize u size) = is_some (log_of u s.logs)
-is_tracked s _ = false
-
 -- ---- the shape with other logs
 
 -- a shape with these logs in place of its own: their extents are among those of others, and so many commits are counted
 abbrev pub with_logs : List Log → ℕ → Shape → Shape
 with_logs logs commits s = record s {
   sequence = risen s.sequence commits;
-  others = log_extents logs + (s.others - log_extents s.logs);
+  others = s.others + log_extents logs - log_extents s.logs;
   logs = logs;
 }
 
@@ -89,9 +76,20 @@ abbrev pub tracked_unless : Option Refusal → State → Command → Outcome
 tracked_unless (Some r) σ c = refused σ r
 tracked_unless None σ c = with_tracked σ.shape c (accepted σ c)
 
--- the step of a command, with what it does to logs; a refused one changes nothing
+-- the step of a command, with what it does to logs: that of a line which spells it; a refused one changes nothing
 unfoldable pub tracked_step : State → Command → Outcome
 tracked_step σ c = tracked_unless (refusal σ.shape c) σ c
+
+-- ---- the step of a line
+
+-- of a line that spells a command
+abbrev pub step_or_bad : Option Command → State → Outcome
+step_or_bad None σ = refused σ BadLine
+step_or_bad (Some c) σ = tracked_step σ c
+
+-- the step of a line
+unfoldable pub step_line : State → List ℕ → Outcome
+step_line σ line = step_or_bad (spelled line) σ
 
 -- ---- tracking begins, and ends
 

@@ -52,19 +52,18 @@ pub fn uses_follow()
     ensures { UsesFollow }
 {}
 
-/// A step with what it does to logs keeps a shape well-formed, where the log that it makes finds room behind the step. It does
-/// where so much is free before it.
+/// A step with what it does to logs keeps a shape well-formed: the log that it makes finds room behind the step.
 pub fn tracked_step_keeps_shape()
     ensures shape { TrackedStepKeepsShape }
     ensures room { TrackedRoom }
 {}
 
-/// A step with what it does to logs keeps them good, where it gives no tracked disk another size.
+/// A step with what it does to logs keeps them good.
 pub fn tracked_step_keeps_logs()
     ensures { TrackedStepKeepsLogs }
 {}
 
-/// What logs tell of disks stays true over a step, where it gives no tracked disk another size.
+/// What logs tell of disks stays true over a step.
 pub fn tracked_step_tells()
     ensures { TrackedStepTells }
 {}
