@@ -1,7 +1,7 @@
 -- Where tables are alike but for logs, no check fails that did not fail, and the disks stand where they stood.
-use Rattle.std.proofs.Common.{◌≡◌, ℕ, zero, suc, ◌==◌, nat_le, ◌≤◌, Bool, true, false, not, ◌&&◌, ◌||◌, ◌⊎◌, cond, List, [], ◌∷◌, length, Option, Some, None, is_some, nat_lt, refl, sym, ap, ap₂, ◌∙◌, inl, inr}
+use Rattle.std.proofs.Common.{◌≡◌, ℕ, zero, suc, ◌==◌, nat_le, Bool, true, false, not, ◌&&◌, ◌||◌, ◌⊎◌, cond, List, [], ◌∷◌, length, Option, Some, None, is_some, nat_lt, refl, sym, ap, ap₂, ◌∙◌, inl, inr}
 use Rattle.std.proofs.Math.Path.{fun_ext}
-use Rattle.std.specs.List.{filter, find, flat_map, list_any}
+use Rattle.std.specs.List.{filter, find, list_any}
 use Rattle.std.specs.Ordering.{is_lt}
 use Rattle.common_laws.specs.Lists.{In, given}
 use Rattle.sm_machine.specs.Shapes.{image_limit}
@@ -20,7 +20,8 @@ use Rattle.sm_standing.proofs.NamedLaws.{all_past}
 use Rattle.sm_standing.specs.Checks.{first_name, has_twin, is_image_wrong, is_parent_right, is_no_larger, is_linked, chain_length, is_invalid, misnamed_fault, lost_entry_fault, old_leaf_fault, invalid_fault, tree_fault, entry_link_fault, record_fault, all_faults, fault_of, is_misnamed, is_lost, is_orphaned, children, parent_is, is_entry_linked, is_misplaced, tree_wrong_as, is_tree_wrong, record_volume_fault, too_many_fault, second_entry_fault, lesser, placed, disk_fault, disk_place, is_unrecorded, disk_uuids}
 use Rattle.sm_standing.specs.Entries.{is_at_stage, folding, making, is_folding, is_making, is_old_of, names_in, head, uuids_in, folding_uuids, image_with, second, is_there, are_past, is_hidden, of_row}
 use Rattle.sm_standing.specs.Outlines.{Outline, Link, outline_records}
-use Rattle.sm_standing.specs.Standing.{candidates, standing_volume, uuids, in_order, stands_plainly, stands_folded, stands_forked, under}
+use Rattle.sm_log_rows.specs.LogRows.{AreApartFromLogs}
+use Rattle.sm_standing.specs.Standing.{standing_volume, uuids, in_order, stands_plainly, stands_folded, stands_forked, under}
 
 -- ---- lists with one volume more, in its place, of which a test is false
 
@@ -44,13 +45,6 @@ names_filtered t (r ∷ rs) = by (t r.name) (names_filtered t rs)
     by false e = e
 
 -- ---- tables in which each volume but a log is the same
-
-pub record AreApartFromLogs (a b : VolumeTable) : Type 0 where
-  pub same : (n : Name) → is_log n ≡ false → rows b n ≡ rows a n
-  pub kept : (t : Row → Bool) → ((r : Row) → is_log r.name ≡ true → t r ≡ false) → filter t b.volumes ≡ filter t a.volumes
-  pub among : (r : Row) → In r b.volumes → (is_log r.name ≡ true) ⊎ In r a.volumes
-  pub spoken : flat_map (λ (r : Row). candidates r.name) b.volumes ≡ flat_map (λ (r : Row). candidates r.name) a.volumes
-  pub later : a.sequence ≤ b.sequence
 
 module _ (a b : VolumeTable) (k : AreApartFromLogs a b) where
   vhd_same : (u : List ℕ) → rows b (Vhd u) ≡ rows a (Vhd u)

@@ -20,8 +20,8 @@ use Rattle.sm_standing.specs.Contents.{Content}
 use Rattle.sm_standing.specs.Images.{image_of}
 use Rattle.sm_standing.specs.Outlines.{outline}
 use Rattle.sm_standing.specs.Standing.{candidates}
-use Rattle.sm_log_rows.specs.LogRows.{HasNoLogLink, IsOfLog}
-use Rattle.sm_log_rows.proofs.ApartLaws.{AreApartFromLogs, filter_more}
+use Rattle.sm_log_rows.specs.LogRows.{AreApartFromLogs, HasNoLogLink, IsOfLog}
+use Rattle.sm_log_rows.proofs.ApartLaws.{filter_more}
 
 -- the UUIDs that the volumes speak of
 abbrev spoken : List Row → List (List ℕ)
@@ -84,7 +84,7 @@ less_spoken n (r ∷ rs) log = by (name_eq r.name n) refl (less_spoken n rs log)
     by true e rest = let is : is_log r.name ≡ true = ap is_log (name_eq-true r.name n e) ∙ log in sym (ap (λ (us : List (List ℕ)). us ++ spoken rs) (log_speaks r.name is))
     by false e rest = ap (λ (us : List (List ℕ)). candidates r.name ++ us) rest
 
-less_in : (n : Name) (s : Row) (rs : List Row) → In s (without n rs) → In s rs
+pub less_in : (n : Name) (s : Row) (rs : List Row) → In s (without n rs) → In s rs
 unfolding without
 less_in n s [] i = i
 less_in n s (r ∷ rs) i = by (name_eq r.name n) (less_in n s rs) i

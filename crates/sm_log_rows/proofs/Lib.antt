@@ -1,2 +1,4 @@
 pub mod ApartLaws
 pub mod ChangedLaws
+pub mod ContentLaws
+pub mod DroppedLaws

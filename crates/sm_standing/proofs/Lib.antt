@@ -9,6 +9,7 @@ pub mod WalkLaws
 pub mod ImageLaws
 pub mod WorldLaws
 pub mod FaultLaws
+pub mod LogLaws
 pub mod OutlineLaws
 pub mod ImageSectors
 pub mod NamedLaws

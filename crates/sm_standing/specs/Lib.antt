@@ -6,6 +6,7 @@ pub mod Logs
 pub mod Outlines
 pub mod Answering
 pub mod Checks
+pub mod LogChecks
 pub mod Keeping
 pub mod Devices
 pub mod Shapes

@@ -1,6 +1,6 @@
 -- The logs of tracked disks that stand in a repository (this project's format). The log of a disk is the volume CBT- with the disk's UUID.
 -- Its first sector is the head, from its second sector on it has one bit for each piece of the disk, the first piece in the most
--- significant bit of the first byte. A log that is new, and one whose disk is not there, is no log of the repository's: an opening removes it.
+-- significant bit of the first byte. A log that is new, and one whose disk is not there, is no log of the repository's.
 use Rattle.std.specs.Prelude.{◌≡◌, ℕ, ◌+◌, ◌/◌, ◌%◌, Bool, List, length, map, Option, Some, None, is_some, if◌then◌else◌}
 use Rattle.std.specs.List.{filter, filter_map}
 use Rattle.sm_base.specs.declared.names.Name.{Name}
@@ -47,7 +47,7 @@ log_named c (Leaf leaf parent) = None
 unfoldable pub logs_in : Content → List Log
 logs_in c = filter_map (λ r. log_named c r.name) c.table.volumes
 
--- those whose disk is there
+-- the logs of a content whose disks are there, in order of name
 unfoldable pub logs : Content → List Log
 logs c = filter (λ l. is_some (standing_volume c.table l.disk)) (logs_in c)
 

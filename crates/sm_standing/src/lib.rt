@@ -9,7 +9,7 @@
 //!
 //! The definitions are in `specs/`: `Contents`, `Entries` (journal entries and their stages), `Images` (an image, a turn, what
 //! is read), `Answering` (the same without a bound), `Standing` (the disks), `Outlines` (what the checks look at), `Checks`
-//! (the checks in their order), `Keeping` (kept), `Devices` (the same of a whole device), `Shapes` (the shape that a content
+//! (the checks in their order), `LogChecks` (the last one, of logs), `Keeping` (kept), `Devices` (the same of a whole device), `Shapes` (the shape that a content
 //! spells), `Opened` (the commits that an opening makes, repair by repair, and the shape of what stands behind them), `Plain` and
 //! `PlainSound` (a repository in which nothing is under way), `Readings` (record sectors of two contents), `Changes` (an image
 //! that comes, goes, grows or moves), `Enlarging` (an image that is being enlarged), `Undone` (while an enlargement or a fork
@@ -31,6 +31,7 @@ mod forks;
 mod images;
 mod leaves;
 mod listing;
+mod logs;
 mod plain;
 mod swaps;
 mod unfolding;
@@ -51,6 +52,7 @@ pub use listing::{
     law_disk, law_disks_follow, law_disks_in_order, law_one_disk_changed, law_one_disk_less,
     law_one_disk_more,
 };
+pub use logs::{law_log_fault, law_logs};
 pub use plain::{law_but_leaf, law_plain_kept, law_undone};
 pub use swaps::law_swapping;
 pub use unfolding::{law_linking, law_unfolded};
