@@ -1,7 +1,9 @@
 -- How bytes are cut into lines, and what the buffer of a line keeps.
-use Rattle.std.proofs.Common.{◌≡◌, ◌⊎◌, inl, inr, ℕ, ◌+◌, ◌<◌, ◌≤◌, arith, Bool, true, false, not, ◌&&◌, List, [], ◌∷◌, ◌++◌, length, take, None, refl, sym, ap, ◌∙◌, nat_eq}
+use Rattle.std.proofs.Common.{◌≡◌, ◌≢◌, ◌⊎◌, inl, inr, All, ℕ, ◌+◌, ◌-◌, min, ◌<◌, ◌≤◌, arith, Bool, true, false, not, ◌&&◌, List, [], ◌∷◌, ◌++◌, length, take, None, refl, sym, ap, ◌∙◌, nat_eq}
 use Rattle.std.proofs.lemmas.Bool.{cases_lt}
 use Rattle.std.proofs.lemmas.Bool.Decides.{nat_tests}
+use Rattle.std.proofs.lemmas.List.Elements.{All-head, All-tail}
+use Rattle.std.proofs.Math.Seq.{take-append-add}
 use Rattle.std.proofs.lemmas.List.{take_all, take-append-le, take-take, length-take}
 use Rattle.sm_machine.specs.Lines.{line_limit, lines, onto, spelled}
 use Rattle.sm_run.specs.Parts.{front_of, is_in_line}
@@ -22,11 +24,20 @@ pub in_line-none : is_in_line [] ≡ true
 unfolding is_in_line
 in_line-none = refl
 
--- one byte more that ends no line
-pub in_line-push : (bytes : List ℕ) (b : ℕ) → is_in_line bytes ≡ true → nat_eq b 10 ≡ false → is_in_line (bytes ++ b ∷ []) ≡ true
+-- bytes of which none ends a line
+pub in_line-all : (bytes : List ℕ) → All (λ b. b ≢ 10) bytes → is_in_line bytes ≡ true
 unfolding is_in_line
-in_line-push [] b h e = joined (nat_eq b 10) true e refl
-in_line-push (x ∷ bytes) b h e = let p = head_in_line x bytes h in joined (nat_eq x 10) (is_in_line (bytes ++ b ∷ [])) p.0 (in_line-push bytes b p.1 e)
+in_line-all [] h = refl
+in_line-all (b ∷ bytes) h =
+    let other : b ≢ 10 = All-head (λ x. x ≢ 10) b bytes h in
+    let fails : nat_eq b 10 ≡ false = grind (arith, nat_tests, other) in
+    joined (nat_eq b 10) (is_in_line bytes) fails (in_line-all bytes (All-tail (λ x. x ≢ 10) b bytes h))
+
+-- more bytes that end no line
+pub in_line-append : (bytes more : List ℕ) → is_in_line bytes ≡ true → is_in_line more ≡ true → is_in_line (bytes ++ more) ≡ true
+unfolding is_in_line
+in_line-append [] more h e = e
+in_line-append (x ∷ bytes) more h e = let p = head_in_line x bytes h in joined (nat_eq x 10) (is_in_line (bytes ++ more)) p.0 (in_line-append bytes more p.1 e)
 
 onto_line : (t : Bool) (b : ℕ) (line : List ℕ) (rest : List (List ℕ)) → t ≡ false → onto t b (line ∷ rest) ≡ (b ∷ line) ∷ rest
 onto_line t b line rest e = rw e refl
@@ -71,9 +82,23 @@ pub front_of-short : (line : List ℕ) → length line ≤ line_limit + 1 → fr
 unfolding front_of
 front_of-short line h = take_all (line_limit + 1) line h
 
-pub front_of-full : (line more : List ℕ) → line_limit + 1 ≤ length line → length line ≤ line_limit + 1 → front_of (line ++ more) ≡ line
+-- as many bytes more as there is room for
+pub front_of-fill : (line more : List ℕ) (n : ℕ) → length line ≤ line_limit + 1 → n ≡ min (length more) (line_limit + 1 - length line)
+    → line ++ take n more ≡ front_of (line ++ more)
 unfolding front_of
-front_of-full line more h k = take-append-le (line_limit + 1) line more h ∙ take_all (line_limit + 1) line k
+front_of-fill line more n h is =
+    let k = line_limit + 1 - length line in
+    let all : length line + k ≡ line_limit + 1 = omega arith in
+    ap (λ l. line ++ l) (by k is (cases_lt (length more) k)) ∙ sym (take-append-add line more k) ∙ ap (λ m. take m (line ++ more)) all
+  where
+    by : (k : ℕ) → n ≡ min (length more) k → (length more < k) ⊎ (k ≤ length more) → take n more ≡ take k more
+    by k is (inl h) =
+        let same : length more ≤ n = omega (arith, is) in
+        let less : length more ≤ k = omega arith in
+        take_all n more same ∙ sym (take_all k more less)
+    by k is (inr h) =
+        let same : n ≡ k = omega (arith, is) in
+        ap (λ m. take m more) same
 
 take-step : (n : ℕ) (line more : List ℕ) → take n (take n line ++ more) ≡ take n (line ++ more)
 take-step n line more = by (cases_lt (length line) n)
@@ -85,10 +110,10 @@ take-step n line more = by (cases_lt (length line) n)
         let same : n ≤ n = omega arith in
         take-append-le n (take n line) more long ∙ take-take n n line same ∙ sym (take-append-le n line more h)
 
--- one byte more
-pub front_of-push : (line : List ℕ) (b : ℕ) → front_of (front_of line ++ b ∷ []) ≡ front_of (line ++ b ∷ [])
+-- more bytes
+pub front_of-push : (line more : List ℕ) → front_of (front_of line ++ more) ≡ front_of (line ++ more)
 unfolding front_of
-front_of-push line b = take-step (line_limit + 1) line (b ∷ [])
+front_of-push line more = take-step (line_limit + 1) line more
 
 pub front_of-none : front_of [] ≡ []
 front_of-none = front_of-short [] (omega arith)

@@ -9,7 +9,8 @@ use Rattle.sm_machine.specs.Disks.{Disk}
 use Rattle.sm_machine.specs.Lines.{spelled}
 use Rattle.sm_machine.specs.Refusals.{refusal}
 use Rattle.sm_machine.specs.Runs.{Turn, taken, settles, some_settling, is_accepted, is_settling, face}
-use Rattle.sm_machine.specs.Steps.{State, Outcome, refused, step, step_line, step_or_bad}
+use Rattle.sm_machine.specs.Steps.{State, Outcome, refused}
+use Rattle.sm_machine.specs.Tracking.{step_line, step_or_bad, tracked_step}
 use Rattle.sm_run.specs.Between.{IsBetween, IsSettledAs}
 use Rattle.sm_run.specs.Parts.{turn_of, HasStepped}
 use Rattle.sm_run.specs.Runs.{IsSpared, may_want_memory}
@@ -25,7 +26,7 @@ pub taken-none : (σ : State) (line : List ℕ) → spelled line ≡ None → ta
 unfolding taken step_line
 taken-none σ line h = ap (λ c. step_or_bad c σ) h
 
-pub taken-some : (σ : State) (line : List ℕ) (command : Command) → spelled line ≡ Some command → taken σ (turn_of line false) ≡ step σ command
+pub taken-some : (σ : State) (line : List ℕ) (command : Command) → spelled line ≡ Some command → taken σ (turn_of line false) ≡ tracked_step σ command
 unfolding taken step_line
 taken-some σ line command h = ap (λ c. step_or_bad c σ) h
 
@@ -82,11 +83,11 @@ stepped-refused σ σ' line poor r reply before after is_ready is_kept spared is
 -- a line that was stepped
 pub stepped-command : (σ σ' : State) (line : List ℕ) (command : Command) (result : Result Reply StepFault) (before after : List Disk → Type 0) (is_ready is_kept : Type 0)
     → spelled line ≡ Some command
-    → IfOk result (λ r. ((r ≡ No NoMemory) × (σ' ≡ σ)) ⊎ ((r ≡ (step σ command).reply) × (σ' ≡ (step σ command).after)))
+    → IfOk result (λ r. ((r ≡ No NoMemory) × (σ' ≡ σ)) ⊎ ((r ≡ (tracked_step σ command).reply) × (σ' ≡ (tracked_step σ command).after)))
     → IfOk result (λ r. r ≡ No NoMemory → (refusal σ.shape command ≡ None) × (may_want_memory σ.shape command ≡ true))
     → OnOk result is_ready → is_kept
     → IfOk result (λ r. is_accepted r ≡ false → (ds : List Disk) → after ds → before ds)
-    → ((ds : List Disk) → after ds → IsBetween before σ.disks ((step σ command).after).disks ds)
+    → ((ds : List Disk) → after ds → IsBetween before σ.disks ((tracked_step σ command).after).disks ds)
     → OnOk result ((ds : List Disk) → after ds → map face ds ≡ map face σ'.disks)
     → IfOk result (λ r. is_accepted r ≡ true → is_settling command ≡ true → (ds : List Disk) → after ds → IsSettledAs σ'.disks ds)
     → ((ds : List Disk) → before ds → map face ds ≡ map face σ.disks)

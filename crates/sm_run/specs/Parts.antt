@@ -1,6 +1,6 @@
 -- What the parts of a run do (this project's format): a line is read into a buffer, it is stepped, and its reply goes
 -- out.
-use Rattle.std.specs.Prelude.{◌≡◌, ◌+◌, ◌==◌, ◌&&◌, not, ⊤, ℕ, Bool, true, List, [], ◌∷◌, ◌++◌, map, length, take, Option, None, Some, Result, Ok, Err, OnOk, IfOk}
+use Rattle.std.specs.Prelude.{◌≡◌, ◌+◌, ◌==◌, ◌&&◌, not, ⊤, ℕ, Bool, true, List, [], ◌∷◌, ◌++◌, map, length, take, Option, Result, Ok, Err, OnOk, IfOk}
 use Rattle.sm_base.specs.declared.faults.Failed.{Failed}
 use Rattle.sm_disk.specs.Streams.{Takes, Adds, AddsFront}
 use Rattle.sm_machine.specs.declared.replies.Reply.{Reply}
@@ -25,11 +25,6 @@ front_of line = take (line_limit + 1) line
 unfoldable pub is_in_line : List ℕ → Bool
 is_in_line [] = true
 is_in_line (b ∷ bytes) = not (b == 10) && is_in_line bytes
-
--- one byte was read, or the source has no more
-abbrev pub Gives : Option ℕ → Option (List ℕ) → Option (List ℕ) → Type 0
-Gives None had left = Takes had [] left × IsSpent left
-Gives (Some b) had left = Takes had (b ∷ []) left
 
 -- what came behind the bytes of a line, where `room` bytes more might be read before and `room'` after it
 abbrev pub HasEnded : Result Ending Failed → List ℕ → Option (List ℕ) → Option (List ℕ) → ℕ → ℕ → Type 0

@@ -1,5 +1,5 @@
 -- A run over a script (this project's format): which lines were read, which of them were answered, and what the sink
--- got. A script is read byte by byte, and each line's reply goes out whole before the next byte is read. So at every
+-- got. A script is read line by line, and each line's reply goes out whole before the next byte is read. So at every
 -- return all lines that were read whole are answered, but for the last one where its step or its reply failed.
 use Rattle.std.specs.Prelude.{◌≡◌, ◌≢◌, ◌≤◌, ◌^◌, ◌+◌, ◌==◌, ◌⊎◌, ⊤, ℕ, Bool, true, false, nat_lt, List, [], ◌∷◌, ◌++◌, map, length, take, Option, None, Some, IfSome, Result, Ok, Err}
 use Rattle.sm_base.specs.declared.operations.Plan.{Plan}

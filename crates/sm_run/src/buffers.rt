@@ -1,6 +1,6 @@
 //! The buffer that a line is read into.
 
-ghost use Rattle.std.specs.Prelude.{◌≡◌, ◌++◌, ◌∷◌, [], IfOk};
+ghost use Rattle.std.specs.Prelude.{◌≡◌, ◌++◌, [], IfOk};
 ghost use Rattle.sm_run.specs.Parts.{front_of};
 
 use sm_base::NoMemory;
@@ -54,12 +54,13 @@ impl LineBuffer {
         self.bytes.clear();
     }
 
-    /// Takes one byte more, where there is room for it.
-    pub fn push(&mut self, byte: u8)
-        ensures { self.new ≡ front_of (self.old ++ byte ∷ []) }
+    /// Takes more bytes of the line, as many as there is room for.
+    pub fn push(&mut self, bytes: &[u8])
+        ensures { self.new ≡ front_of (self.old ++ bytes.now) }
     {
-        if self.bytes.len() < ROOM {
-            self.bytes.push_reserved(byte);
+        let count = bytes.len().min(ROOM - self.bytes.len());
+        if self.bytes.extend_from_slice(&bytes[..count]).is_err() {
+            unreachable!();
         }
     }
 

@@ -23,8 +23,8 @@
 //!
 //! **Costs.** One [`LineBuffer`], of 65,537 bytes for a line and 32,256 for the bytes that it may spell, which the caller
 //! takes before all else and which is used again for each line, so a run never ends for want of it; no other memory but
-//! that of the steps. The source is read byte by byte, since a larger piece would take lines from it that a fault of the
-//! sink leaves unread. A run ends, after at most 2^40 + 1 bytes.
+//! that of the steps. The source is read in pieces that end at a newline, since a longer piece would take lines from it
+//! that a fault of the sink leaves unread. A run ends, after at most 2^40 + 1 bytes.
 #![tactic(auto)]
 
 mod answers;

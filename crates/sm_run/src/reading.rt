@@ -1,8 +1,8 @@
-//! Reading a line from a source, byte by byte.
+//! Reading a line from a source, in pieces that end at its newline.
 
-ghost use Rattle.std.specs.Prelude.{◌≡◌, ◌≤◌, OnErr, IfOk};
+ghost use Rattle.std.specs.Prelude.{◌≤◌};
 ghost use Rattle.sm_disk.specs.Held.{IsCounted};
-ghost use Rattle.sm_run.specs.Parts.{Gives, HasRead};
+ghost use Rattle.sm_run.specs.Parts.{HasRead};
 
 use crate::buffers::LineBuffer;
 use sm_base::Failed;
@@ -19,20 +19,8 @@ pub enum Ending {
     PastLimit,
 }
 
-/// One byte, or `None` at the end.
-pub fn next_byte<S: Source>(source: &mut S) -> Result<Option<u8>, Failed>
-    ensures gives { IfOk result (λ byte. Gives byte (S.content source.old) (S.content source.new)) }
-    ensures unchanged { OnErr result (S.content source.new ≡ S.content source.old) }
-    ensures counts { S.faults source.old ≤ S.faults source.new }
-    ensures cause { IsCounted result (S.faults source.old) (S.faults source.new) }
-{
-    let mut byte = [0];
-    let count = source.read(&mut byte)?;
-    if count == 0 {
-        return Ok(None);
-    }
-    Ok(Some(byte[0]))
-}
+/// The most bytes that are taken from the source in one call.
+const PIECE: usize = 4096;
 
 /// Reads a line up to its newline, which is left out, or up to the script's end. `room` is the number of
 /// bytes that the script may still have.
@@ -46,17 +34,21 @@ pub fn read_line<S: Source>(
     ensures cause { IsCounted result (S.faults source.old) (S.faults source.new) }
 {
     line.clear();
-    'bytes: loop {
-        let Some(byte) = next_byte(source)? else {
+    let mut piece = [0; PIECE];
+    'pieces: loop {
+        let most = (*room).clamp(1, PIECE as u64) as usize;
+        let count = source.read_until(b'\n', &mut piece[..most])?;
+        let Some((last, front)) = piece[..count].split_last() else {
             return Ok(Ending::ScriptEnd);
         };
         if *room == 0 {
             return Ok(Ending::PastLimit);
         }
-        *room -= 1;
-        if byte == b'\n' {
+        *room -= count as u64;
+        if *last == b'\n' {
+            line.push(front);
             return Ok(Ending::Newline);
         }
-        line.push(byte);
+        line.push(&piece[..count]);
     }
 }

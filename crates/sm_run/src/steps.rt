@@ -8,7 +8,8 @@ ghost use Rattle.sm_machine.specs.declared.replies.Reply.TheVariants.{No};
 ghost use Rattle.sm_machine.specs.Disks.{Disk};
 ghost use Rattle.sm_machine.specs.Refusals.{refusal};
 ghost use Rattle.sm_machine.specs.Shapes.{Shape};
-ghost use Rattle.sm_machine.specs.Steps.{State, step};
+ghost use Rattle.sm_machine.specs.Steps.{State};
+ghost use Rattle.sm_machine.specs.Tracking.{tracked_step};
 ghost use Rattle.sm_machine.specs.Runs.{is_accepted, is_settling, face};
 ghost use Rattle.sm_run.specs.Between.{IsBetween, IsSettledAs};
 ghost use Rattle.sm_run.specs.Runs.{may_want_memory};
@@ -86,13 +87,13 @@ pub trait Steps {
         ensures causes_only { IfOk result (λ r. (x : Refusal) → r ≡ No x → (x ≡ NoMemory) ⊎ (refusal (shape self.old) command.now ≡ Some x)) }
         ensures reply { told → ready self.old → IfOk result (λ r.
             ((r ≡ No NoMemory) × (state self.new ≡ state self.old))
-            ⊎ ((r ≡ (step (state self.old) command.now).reply) × (state self.new ≡ (step (state self.old) command.now).after))) }
+            ⊎ ((r ≡ (tracked_step (state self.old) command.now).reply) × (state self.new ≡ (tracked_step (state self.old) command.now).after))) }
         ensures spared { IfOk result (λ r. r ≡ No NoMemory → may_want_memory (shape self.old) command.now ≡ true) }
         ensures ready { told → ready self.old → OnOk result (ready self.new) }
         ensures kept { told → ready self.old → kept self.new }
         ensures refused { IfOk result (λ r. is_accepted r ≡ false → (ds : List Disk) → leaves self.new ds → leaves self.old ds) }
         ensures crash { told → ready self.old → (ds : List Disk) → leaves self.new ds
-            → IsBetween (leaves self.old) (state self.old).disks ((step (state self.old) command.now).after).disks ds }
+            → IsBetween (leaves self.old) (state self.old).disks ((tracked_step (state self.old) command.now).after).disks ds }
         ensures faces { told → ready self.old → OnOk result ((ds : List Disk) → leaves self.new ds → map face ds ≡ map face (state self.new).disks) }
         ensures settled { told → ready self.old → IfOk result (λ r. is_accepted r ≡ true → is_settling command.now ≡ true
             → (ds : List Disk) → leaves self.new ds → IsSettledAs (state self.new).disks ds) }

@@ -1,10 +1,13 @@
 -- The words of a line, from its first space on.
 use Rattle.std.proofs.Common.{◌≡◌, ℕ, suc, ◌+◌, ◌<◌, ◌≤◌, ◌==◌, ◌⊎◌, inl, inr, Bool, true, false, cond, List, [], ◌∷◌, ◌++◌, length, take, drop, get_or, drop-cons, Option, Some, None, arith, refl, sym, ap, subst, ◌∙◌}
-use Rattle.std.specs.Prelude.{⊤, not, position, option_copied, is_some}
+use Rattle.std.specs.Prelude.{⊤, ltb, not, position, option_copied, is_some}
 use Rattle.std.specs.List.{position_or_len}
 use Rattle.std.proofs.Common.{Bor}
 use Rattle.std.proofs.lemmas.Bool.{cases_lt, ltb-true, ltb-false, eqb-true}
+use Rattle.std.proofs.lemmas.Bool.Decides.{nat_tests}
 use Rattle.std.proofs.lemmas.List.{take-append-drop}
+use Rattle.std.proofs.lemmas.List.Sums.{position_or_len_is}
+use Rattle.memchr.specs.Find.{IsFirstByte, is_byte}
 use Rattle.std.proofs.lemmas.List.Quantifiers.{position-Some}
 use Rattle.sm_machine.specs.Lines.{before, words}
 use Rattle.sm_script.specs.Cuts.{behind, words_behind}
@@ -12,6 +15,10 @@ use Rattle.sm_script.specs.Cuts.{behind, words_behind}
 -- the length of the first word
 abbrev front : List ℕ → ℕ
 front bytes = position_or_len (λ b. b == 32) bytes
+
+fails : (t : Bool) → ¬ (t ≡ true) → t ≡ false
+fails true h = absurd (h refl)
+fails false h = refl
 
 -- one byte more, which is a space or not
 front_step : (space : Bool) (b : ℕ) (bytes : List ℕ) (n : ℕ) → (n < length bytes → words bytes ≡ take n bytes ∷ words (drop (suc n) bytes))
@@ -72,6 +79,19 @@ IsCut-from_space line end e =
 
 pub words-from_none : (line : List ℕ) → None ≡ position (λ b. b == 32) line → words line ≡ line ∷ []
 words-from_none line e = words-whole line (ltb-false (front line) (length line) (not_found _ (front line) e))
+
+-- the first space that a search found is at its position
+pub position-from_first : (line : List ℕ) (r : Option ℕ) → IsFirstByte (is_byte 32) line r → r ≡ position (λ b. b == 32) line
+position-from_first line None nowhere =
+    let at : front line ≡ length line = position_or_len_is (λ b. b == 32) line (length line) 0 (omega arith)
+    (λ k below. fails (is_byte 32 (get_or line k 0)) (nowhere k (omega arith) below)) (λ below. absurd (omega arith)) in
+    let out : ltb (length line) (length line) ≡ false = grind (arith, nat_tests) in
+    sym (ap (λ n. cond (ltb n (length line)) (Some n) None) at ∙ ap (λ t. cond t (Some (length line)) None) out)
+position-from_first line (Some i) first =
+    let at : front line ≡ i = position_or_len_is (λ b. b == 32) line i 0 (omega (arith, first.0.high))
+    (λ k below. fails (is_byte 32 (get_or line k 0)) (first.0.before k (omega arith) below)) (λ _. first.1) in
+    let within : ltb i (length line) ≡ true = grind (arith, nat_tests, first.0.high) in
+    sym (ap (λ n. cond (ltb n (length line)) (Some n) None) at ∙ ap (λ t. cond t (Some i) None) within)
 
 -- a line has a word, maybe an empty one
 pub words_some : (line : List ℕ) → 0 < length (words line)

@@ -5,6 +5,8 @@ ghost use Rattle.std.specs.Prelude.{◌≡◌, ◌≢◌, ◌==◌, [], ◌∷�
 ghost use Rattle.sm_machine.specs.Lines.{words};
 ghost use Rattle.sm_script.specs.Cuts.{behind, words_behind};
 
+use memchr::memchr;
+
 /// The first word of a line, and what stands behind it.
 pub fn first_word(line: &[u8]) -> (&[u8], Option<&[u8]>)
     ensures words { words line.now ≡ result.0.now ∷ words_behind (option_copied result.1) }
@@ -20,7 +22,7 @@ pub fn first_word(line: &[u8]) -> (&[u8], Option<&[u8]>)
 fn first_space(line: &[u8]) -> Option<usize>
     ensures { result ≡ position (λ byte. byte == 32) line.now }
 {
-    line.iter().position(|byte| *byte == b' ')
+    memchr(b' ', line)
 }
 
 /// The one word that stands behind another.

@@ -5,7 +5,8 @@ use Rattle.sm_machine.specs.declared.replies.Reply.{Reply}
 use Rattle.sm_machine.specs.declared.replies.Reply.TheVariants.{No}
 use Rattle.sm_machine.specs.Replies.{printed}
 use Rattle.sm_machine.specs.Runs.{Turn, taken, after_run, ample, is_accepted}
-use Rattle.sm_machine.specs.Steps.{State, step_line}
+use Rattle.sm_machine.specs.Steps.{State}
+use Rattle.sm_machine.specs.Tracking.{step_line}
 use Rattle.sm_run.specs.declared.steps.StepFault.{StepFault}
 use Rattle.sm_trial.specs.declared.tallies.Tally.{Tally}
 use Rattle.sm_trial.specs.Counts.{reply_most}

@@ -5,7 +5,7 @@ ghost use Rattle.sm_base.specs.declared.faults.CallFault.TheVariants as fault;
 ghost use Rattle.sm_disk.specs.Held.{Keeps, Rose};
 ghost use Rattle.sm_machine.specs.declared.commands.Command.TheVariants.{List as Listing, Stat};
 ghost use Rattle.sm_machine.specs.Shapes.{free};
-ghost use Rattle.sm_machine.specs.Steps.{step};
+ghost use Rattle.sm_machine.specs.Tracking.{tracked_step};
 ghost use Rattle.sm_trial.specs.Endings.{HasCounted};
 
 use sm_base::CallFault;
@@ -24,7 +24,7 @@ pub struct Ending {
 /// How many disks a list has.
 fn count_disks<M: Steps>(alloc: Global, machine: &mut M) -> Result<u64, CallFault>
     ensures counted { IfOk result (λ n. M.told → M.ready machine.old
-        → (n ≡ length (M.state machine.old).disks) × (M.state machine.new ≡ (step (M.state machine.old) Listing).after) × M.ready machine.new) }
+        → (n ≡ length (M.state machine.old).disks) × (M.state machine.new ≡ (tracked_step (M.state machine.old) Listing).after) × M.ready machine.new) }
     ensures kept { M.told → M.ready machine.old → M.kept machine.new }
     ensures site { M.site machine.new ≡ M.site machine.old }
     ensures beside { M.told → Keeps (M.beside machine.old) (M.beside machine.new) }
@@ -44,7 +44,7 @@ fn count_disks<M: Steps>(alloc: Global, machine: &mut M) -> Result<u64, CallFaul
 fn count_images<M: Steps>(alloc: Global, machine: &mut M) -> Result<(u64, u32), CallFault>
     ensures counted { IfOk result (λ n. M.told → M.ready machine.old
         → (n.0 ≡ length (M.state machine.old).shape.images) × (n.1 ≡ free (M.state machine.old).shape)
-        × (M.state machine.new ≡ (step (M.state machine.old) Stat).after) × M.ready machine.new) }
+        × (M.state machine.new ≡ (tracked_step (M.state machine.old) Stat).after) × M.ready machine.new) }
     ensures kept { M.told → M.ready machine.old → M.kept machine.new }
     ensures site { M.site machine.new ≡ M.site machine.old }
     ensures beside { M.told → Keeps (M.beside machine.old) (M.beside machine.new) }

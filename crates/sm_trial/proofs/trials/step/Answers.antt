@@ -5,12 +5,13 @@ use Rattle.sm_machine.specs.declared.commands.Command.{Command}
 use Rattle.sm_machine.specs.declared.replies.Reply.{Reply}
 use Rattle.sm_machine.specs.declared.replies.Reply.TheVariants.{No}
 use Rattle.sm_machine.specs.Lines.{spelled}
-use Rattle.sm_machine.specs.Steps.{State, Outcome, refused, step, step_line, step_or_bad}
+use Rattle.sm_machine.specs.Steps.{State, Outcome, refused}
+use Rattle.sm_machine.specs.Tracking.{step_line, step_or_bad, tracked_step}
 use Rattle.sm_run.specs.declared.steps.StepFault.{StepFault}
 use Rattle.sm_trial.specs.Tallies.{IsStepped}
 use Rattle.sm_trial.proofs.trials.step.Goals as goal
 
-of_command : (σ : State) (line : List ℕ) (c : Command) → Some c ≡ spelled line → step_line σ line ≡ step σ c
+of_command : (σ : State) (line : List ℕ) (c : Command) → Some c ≡ spelled line → step_line σ line ≡ tracked_step σ c
 unfolding step_line
 of_command σ line c is = ap (λ o. step_or_bad o σ) (sym is)
 
@@ -19,7 +20,7 @@ unfolding step_line
 of_none σ line is = ap (λ o. step_or_bad o σ) (sym is)
 
 by_step : (σ σ' : State) (line : List ℕ) (c : Command) (result : Result Reply StepFault) (is_ready is_kept : Type 0) → Some c ≡ spelled line
-    → IfOk result (λ r. ((r ≡ No NoMemory) × (σ' ≡ σ)) ⊎ ((r ≡ (step σ c).reply) × (σ' ≡ (step σ c).after))) → OnOk result is_ready → is_kept
+    → IfOk result (λ r. ((r ≡ No NoMemory) × (σ' ≡ σ)) ⊎ ((r ≡ (tracked_step σ c).reply) × (σ' ≡ (tracked_step σ c).after))) → OnOk result is_ready → is_kept
     → IsStepped σ σ' line result is_ready is_kept
 by_step σ σ' line c (Err e) is_ready is_kept is says ready kept = record { reply = tt; ready = tt; kept = kept }
 by_step σ σ' line c (Ok r) is_ready is_kept is (inl poor) ready kept = record { reply = inl poor.0; ready = ready; kept = kept }
