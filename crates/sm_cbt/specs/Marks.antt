@@ -1,5 +1,5 @@
 -- What is written into a log's volume where pieces of its disk are marked, and what lasts of it.
-use Rattle.std.specs.Prelude.{◌≡◌, ℕ, ◌+◌, ◌-◌, ◌*◌, ◌/◌, ◌≤◌, Bool, List}
+use Rattle.std.specs.Prelude.{◌≡◌, ℕ, ◌+◌, ◌-◌, ◌*◌, ◌/◌, ◌≤◌, Bool, List, length}
 use Rattle.sm_base.specs.declared.names.Name.TheVariants.{Cbt}
 use Rattle.sm_disk.specs.Held.{IsSettled, Reaches, reads}
 use Rattle.vg_volumes.specs.Stored.{held_in, stored}
@@ -10,6 +10,10 @@ use Rattle.sm_log.specs.Logs.{Log, piece_sectors, sector_bits}
 -- the sectors of a disk whose bits stand in one sector of its log
 abbrev pub span : ℕ
 span = sector_bits * piece_sectors
+
+-- so many sectors of the disk from one on lie in pieces that have a bit in its log
+abbrev pub IsWithinLog : ℕ → ℕ → Log → Type 0
+IsWithinLog sector count l = sector + count ≤ piece_sectors * length l.bits
 
 -- this place of a log's volume has a bit of the pieces that so many sectors of the disk from one on reach
 pub record IsMarkPlace (sector count p : ℕ) : Type 0 where

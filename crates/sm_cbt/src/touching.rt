@@ -3,9 +3,9 @@
 ghost use Rattle.std.specs.Prelude.{◌≡◌, ◌≤◌, ◌+◌, ◌*◌, ◌/◌, ◌-◌, true, false, length, IfSome, IsOk, OnOk};
 ghost use Rattle.sm_base.specs.declared.names.Name.TheVariants.{Cbt};
 ghost use Rattle.vg_volumes.specs.Stored.{Counts, WorksOn, sectors_in, stored};
-ghost use Rattle.sm_log.specs.Logs.{log_of, log_sectors, on_log, piece_sectors, touched};
+ghost use Rattle.sm_log.specs.Logs.{log_of, log_sectors, on_log, touched};
 ghost use Rattle.sm_logs.specs.Held.{is_touched};
-ghost use Rattle.sm_cbt.specs.Marks.{Lasts, Marks};
+ghost use Rattle.sm_cbt.specs.Marks.{IsWithinLog, Lasts, Marks};
 
 use sm_base::{Failed, Name};
 use sm_logs::{Log, Logs};
@@ -18,7 +18,7 @@ const SPAN: u64 = 4_096 * 128;
 /// Writes the bits of the pieces that so many sectors of a log's disk from one on reach, as memory has them, and makes them last.
 fn put<S: Store>(store: &mut S, log: &Log, sector: u64, count: u64) -> Result<(), Failed>
     requires some { 1 ≤ count }
-    requires within { sector + count ≤ piece_sectors * length log.now.bits }
+    requires within { IsWithinLog sector count log.now }
     requires room { log_sectors (length log.now.bits) ≤ sectors_in (stored S.Store store.old) (Cbt log.now.disk) }
     ensures works { WorksOn S.Store (Cbt log.now.disk) store.old store.new }
     ensures cause { Counts S.Store result store.old store.new }
@@ -36,8 +36,9 @@ fn put<S: Store>(store: &mut S, log: &Log, sector: u64, count: u64) -> Result<()
 }
 
 /// Marks the pieces that so many sectors of a disk from one on reach in its log, where it has one: in memory, and on the store so that it lasts. Where
-/// all of them were marked, and where the disk has no log, no call of the store is made. Behind a call that failed
-/// memory has marks that the store may lack: the logs are to be read anew before anything is written.
+/// all of them were marked, and where the disk has no log, no call of the store is made; nor where the sectors do not all lie in pieces of the log, of
+/// which memory marks those that do. Behind a call that failed memory has marks that the store may lack: the logs are to be read anew before anything is
+/// written.
 ///
 /// # Errors
 /// A call of the store failed; memory has the marks, the store may have them or not.
@@ -49,13 +50,12 @@ pub fn touch<S: Store>(
     count: u64,
 ) -> Result<(), Failed>
     requires some { 1 ≤ count }
-    requires within { IfSome (log_of disk.now logs.old) (λ l. sector + count ≤ piece_sectors * length l.bits) }
     requires room { IfSome (log_of disk.now logs.old) (λ l. log_sectors (length l.bits) ≤ sectors_in (stored S.Store store.old) (Cbt disk.now)) }
     ensures logs { logs.new ≡ on_log disk.now (touched sector count) logs.old }
     ensures works { WorksOn S.Store (Cbt disk.now) store.old store.new }
     ensures cause { Counts S.Store result store.old store.new }
     ensures marks { IfSome (log_of disk.now logs.new) (λ l. Marks S.Store l sector count store.old store.new) }
-    ensures lasts { is_touched disk.now sector count logs.old ≡ false → IfSome (log_of disk.now logs.new) (λ l. OnOk result (Lasts S.Store l sector count store.new)) }
+    ensures lasts { is_touched disk.now sector count logs.old ≡ false → IfSome (log_of disk.now logs.new) (λ l. IsWithinLog sector count l → OnOk result (Lasts S.Store l sector count store.new)) }
     ensures still { is_touched disk.now sector count logs.old ≡ true → IsOk result × (store.new ≡ store.old) }
 {
     let marked = logs.is_touched(disk, sector, count);
@@ -66,5 +66,8 @@ pub fn touch<S: Store>(
     let Some(log) = logs.get(disk) else {
         unreachable!()
     };
+    if !log.bits().has(sector, count) {
+        return Ok(());
+    }
     put(store, log, sector, count)
 }

@@ -1,43 +1,23 @@
 -- The bits of a log, sector by sector.
-use Rattle.std.proofs.Common.{◌≡◌, ℕ, zero, suc, ◌+◌, ◌/◌, ◌%◌, ◌<◌, ◌≤◌, ◌≢◌, ◌⊎◌, Bool, true, false, cond, eqb, List, ◌∷◌, length, map, refl, sym, ap, ap₂, ◌∙◌, arith, inl, inr}
+use Rattle.std.proofs.Common.{◌≡◌, ℕ, ◌+◌, ◌/◌, ◌%◌, ◌<◌, ◌≤◌, ◌≢◌, ◌⊎◌, Bool, true, false, cond, eqb, List, length, map, sym, ap, ◌∙◌, arith, inl, inr}
 use Rattle.std.proofs.lemmas.Bool.{cond-true, cond-false}
 use Rattle.std.proofs.lemmas.Bool.Decides.{eqb_tells}
-use Rattle.std.proofs.lemmas.List.{ext_get_or, length-map}
+use Rattle.std.proofs.lemmas.List.{ext_get_or}
 use Rattle.sm_base.specs.Numbers.{div_up}
 use Rattle.common_laws.specs.Lists.{numbers}
 use Rattle.vhd_map.specs.Bitmaps.{is_set}
 use Rattle.sm_log.specs.Logs.{bit, sector_bits}
 use Rattle.sm_log.specs.Kept.{with_sector}
+use Rattle.sm_log.proofs.ByteLaws.{bit-flags, length-flags, same_flags}
 use Rattle.sm_standing.specs.Logs.{bit_in}
 
 -- ---- flags by number
 
-flag_from : (f : ℕ → Bool) (a n i : ℕ) → i < n → bit (map f (numbers a n)) i ≡ f (a + i)
-unfolding numbers
-flag_from f a zero i below = absurd (omega arith)
-flag_from f a (suc n) zero below = let here : a ≡ a + 0 = omega arith in ap f here
-flag_from f a (suc n) (suc i) below = let there : a + 1 + i ≡ a + suc i = omega arith in flag_from f (a + 1) n i (omega arith) ∙ ap f there
-
-flag_at : (f : ℕ → Bool) (n i : ℕ) → i < n → bit (map f (numbers 0 n)) i ≡ f i
-flag_at f n i below = let same : 0 + i ≡ i = omega arith in flag_from f 0 n i below ∙ ap f same
-
-length-numbers : (a n : ℕ) → length (numbers a n) ≡ n
-unfolding numbers
-length-numbers a zero = refl
-length-numbers a (suc n) = ap suc (length-numbers (a + 1) n)
-
-pub length-flags : (f : ℕ → Bool) (n : ℕ) → length (map f (numbers 0 n)) ≡ n
-length-flags f n = length-map (numbers 0 n) f ∙ length-numbers 0 n
-
-flags_from : (f g : ℕ → Bool) (a n : ℕ) → ((k : ℕ) → a ≤ k → k < a + n → f k ≡ g k) → map f (numbers a n) ≡ map g (numbers a n)
-unfolding numbers
-flags_from f g a zero same = refl
-flags_from f g a (suc n) same =
-    ap₂ (λ (b : Bool) (bs : List Bool). b ∷ bs) (same a (omega arith) (omega arith)) (flags_from f g (a + 1) n (λ k from to. same k (omega (arith, from)) (omega (arith, to))))
-
 -- the same test of each number makes the same flags
 pub flags_same : (f g : ℕ → Bool) (n : ℕ) → ((k : ℕ) → k < n → f k ≡ g k) → map f (numbers 0 n) ≡ map g (numbers 0 n)
-flags_same f g n same = flags_from f g 0 n (λ k from to. same k (omega (arith, to)))
+flags_same f g n same =
+    same_flags (map f (numbers 0 n)) (map g (numbers 0 n)) (length-flags f n ∙ sym (length-flags g n))
+    (λ k within. let below : k < n = rw (length-flags f n) at within in bit-flags f n k below ∙ same k below ∙ sym (bit-flags g n k below))
 
 -- the same sectors make the same bits
 pub bits_same : (a b : ℕ → List ℕ) (n : ℕ) → ((p : ℕ) → a p ≡ b p) → map (bit_in a) (numbers 0 n) ≡ map (bit_in b) (numbers 0 n)
@@ -60,10 +40,10 @@ read_more pieces n sectors sector bits long is so_far = λ k below within. seen 
     seen : (k : ℕ) → k < pieces → k / sector_bits < n + 1 → ((eqb (k / sector_bits) n ≡ true) × (k / sector_bits ≡ n)) ⊎ ((eqb (k / sector_bits) n ≡ false) × (k / sector_bits ≢ n))
         → bit (with_sector n sector bits) k ≡ bit_in sectors k
     seen k below within (inl (test, same)) =
-        flag_at flag (length bits) k (omega (arith, below, long)) ∙ cond-true (eqb (k / sector_bits) n) _ _ test
+        bit-flags flag (length bits) k (omega (arith, below, long)) ∙ cond-true (eqb (k / sector_bits) n) _ _ test
         ∙ ap (λ (v : List ℕ). is_set v (k % sector_bits)) is ∙ ap (λ (m : ℕ). is_set (sectors (1 + m)) (k % sector_bits)) (sym same)
     seen k below within (inr (test, other)) =
-        flag_at flag (length bits) k (omega (arith, below, long)) ∙ cond-false (eqb (k / sector_bits) n) _ _ test
+        bit-flags flag (length bits) k (omega (arith, below, long)) ∙ cond-false (eqb (k / sector_bits) n) _ _ test
         ∙ so_far k below (omega (arith, within, other))
 
 pub length-with_sector : (n : ℕ) (sector : List ℕ) (bits : List Bool) → length (with_sector n sector bits) ≡ length bits
@@ -75,4 +55,4 @@ pub read_all : (pieces n : ℕ) (sectors : ℕ → List ℕ) (bits : List Bool) 
 unfolding div_up
 read_all pieces n sectors bits long enough so_far =
     ext_get_or false bits (map (bit_in sectors) (numbers 0 pieces)) (long ∙ sym (length-flags (bit_in sectors) pieces))
-    (λ k below. so_far k (omega (arith, below, long)) (omega (arith, below, long, enough)) ∙ sym (flag_at (bit_in sectors) pieces k (omega (arith, below, long))))
+    (λ k below. so_far k (omega (arith, below, long)) (omega (arith, below, long, enough)) ∙ sym (bit-flags (bit_in sectors) pieces k (omega (arith, below, long))))

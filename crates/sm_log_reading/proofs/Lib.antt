@@ -1,3 +1,5 @@
 pub mod BitLaws
+pub mod FaultLaws
 pub mod NextLaws
 pub mod ReadLaws
+pub mod ReadOf

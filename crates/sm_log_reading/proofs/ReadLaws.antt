@@ -20,7 +20,8 @@ use Rattle.sm_log.specs.Logs.{Log, log_sectors, sector_bits}
 use Rattle.sm_standing.specs.Contents.{sectors_of, size_of}
 use Rattle.sm_standing.specs.Logs.{bit_in, log_at, log_in, log_read}
 use Rattle.sm_log_reading.specs.Reading.{content_of, filled_extents, fitting, whole_log}
-use Rattle.sm_log_reading.proofs.BitLaws.{flags_same, length-flags}
+use Rattle.sm_log.proofs.ByteLaws.{length-flags}
+use Rattle.sm_log_reading.proofs.BitLaws.{flags_same}
 
 -- ---- the volume
 

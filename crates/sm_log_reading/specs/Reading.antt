@@ -1,5 +1,5 @@
 -- What is read of a disk's log off a store.
-use Rattle.std.specs.Prelude.{ℕ, ◌==◌, ◌&&◌, List, length, nat_le, Option, Some, None, if◌then◌else◌}
+use Rattle.std.specs.Prelude.{◌≡◌, ℕ, ◌*◌, ◌≤◌, ◌==◌, ◌&&◌, List, length, nat_le, Option, Some, None, if◌then◌else◌}
 use Rattle.sm_base.specs.declared.names.Name.TheVariants.{Cbt}
 use Rattle.sm_disk.specs.Held.{reads}
 use Rattle.vg_meta.specs.Tables.{VolumeTable, rows}
@@ -32,3 +32,11 @@ fitting pieces size l = if (length l.bits == pieces) && nat_le (log_sectors piec
 -- too few sectors
 unfoldable pub whole_log : Content → List ℕ → ℕ → Option Log
 whole_log c u pieces = log_at c u >>= fitting pieces (size_of c (Cbt u))
+
+-- a log as it is in memory, of a disk of so many pieces, beside a table with extents of so many sectors: it has the extents of its volume, which is there and
+-- not new, and these have the sectors for it
+pub record IsReadOf (t : VolumeTable) (extent : ℕ) (u : List ℕ) (pieces : ℕ) (l : Log) : Type 0 where
+  pub own : l.disk ≡ u
+  pub extents : filled_extents t u ≡ Some l.extents
+  pub long : length l.bits ≡ pieces
+  pub room : log_sectors pieces ≤ l.extents * extent

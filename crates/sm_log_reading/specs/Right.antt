@@ -1,12 +1,13 @@
 -- Which logs of disks are right, and the logs in memory that come of them.
-use Rattle.std.specs.Prelude.{ℕ, ◌==◌, ◌&&◌, ◌||◌, not, Bool, List, [], ◌∷◌, nat_le, Option, Some, None, Result, Ok, Err, is_some, is_none, if◌then◌else◌}
+use Rattle.std.specs.Prelude.{◌≡◌, ℕ, ◌==◌, ◌&&◌, ◌||◌, not, Bool, List, [], ◌∷◌, nat_le, Option, Some, None, Result, Ok, Err, is_some, is_none, if◌then◌else◌}
 use Rattle.std.specs.List.{list_any}
 use Rattle.vg_meta.specs.Tables.{VolumeTable}
 use Rattle.vg_volumes.specs.Stored.{Faults}
 use Rattle.vg_volumes.specs.declared.stores.Store.{Ghosts}
+use Rattle.common_laws.specs.Lists.{In, ◌>>=◌}
 use Rattle.sm_log.specs.Logs.{Log, log_of, with_log}
 use Rattle.sm_standing.specs.Contents.{Content}
-use Rattle.sm_log_reading.specs.Reading.{filled_extents, whole_log}
+use Rattle.sm_log_reading.specs.Reading.{IsReadOf, filled_extents, whole_log}
 use Rattle.sm_log_reading.specs.declared.logs.DiskPieces.{DiskPieces}
 use Rattle.sm_log_reading.specs.declared.logs.LogFault.{LogFault}
 use Rattle.sm_log_reading.specs.declared.logs.LogFault.TheVariants as fault
@@ -46,6 +47,12 @@ logs_behind c earlier (d ∷ ds) = elim (next_log c earlier d) [ Ok found ↦ lo
 -- the disk's, or the volume has too few sectors for them, or the tag or the since is not below the sequence number, or an earlier disk's log has the same tag other than 0
 abbrev pub logs_read : Content → List DiskPieces → Result (List Log) (List ℕ)
 logs_read c ds = logs_behind c [] ds
+
+-- the logs in memory are those of some disks, beside a table with extents of so many sectors: each disk has one whose log's volume is there and not new, and no
+-- other has
+pub record AreReadOf (t : VolumeTable) (extent : ℕ) (ds : List DiskPieces) (ls : List Log) : Type 0 where
+  pub found : (d : DiskPieces) → In d ds → filled_extents t d.disk ≡ (log_of d.disk ls >>= λ l. Some l.extents)
+  pub from : (l : Log) → In l ls → (d : DiskPieces) × In d ds × IsReadOf t extent d.disk d.pieces l
 
 -- why logs were not read: the log of a disk is wrong, where the content is told; a fault of the device; memory
 abbrev pub IsNotRead : {S : Type 0} → Ghosts S → (List ℕ → Type 0) → S → S → LogFault → Type 0

@@ -1,12 +1,12 @@
 //! The logs of all tracked disks are read.
 
-ghost use Rattle.std.specs.Prelude.{◌≡◌, ◌≢◌, ◌≤◌, Some, None, Ok, Err, IfOk, IfErr, IfSome, length, ◌==◌};
+ghost use Rattle.std.specs.Prelude.{◌≡◌, ◌≢◌, ◌≤◌, Some, None, Ok, Err, false, IfOk, IfErr, IfNone, IfSome, length, ◌==◌};
 ghost use Rattle.std.specs.List.{list_any};
 ghost use Rattle.vg_meta.specs.Roomy.{table_alone};
 ghost use Rattle.vg_volumes.specs.Stored.{OnlyReads, stored};
 ghost use Rattle.sm_log.specs.Logs.{log_of};
-ghost use Rattle.sm_log_reading.specs.Reading.{content_of};
-ghost use Rattle.sm_log_reading.specs.Right.{IsNotRead, is_tag_wrong, is_to_read, judged_log, logs_read, next_log};
+ghost use Rattle.sm_log_reading.specs.Reading.{IsReadOf, content_of};
+ghost use Rattle.sm_log_reading.specs.Right.{AreReadOf, IsNotRead, is_tag_wrong, is_to_read, judged_log, logs_read, next_log};
 ghost use Rattle.sm_log_reading.specs.declared.logs.LogFault.TheVariants as fault;
 
 use crate::reading::{filled_extents, read_log};
@@ -69,7 +69,7 @@ fn read_right<S: Store>(
 ) -> Result<Log, LogFault>
     ensures only { OnlyReads S.Store store.old store.new }
     ensures calm { result ≢ Err fault.Device → S.faults store.new ≡ S.faults store.old }
-    ensures own { IfOk result (λ log. log.disk ≡ disk.now.disk) }
+    ensures own { IfOk result (IsReadOf (table_alone (S.table store.old)) (S.site store.old).geometry.extent disk.now.disk disk.now.pieces) }
     ensures right { S.told → IfOk result (λ log. judged_log (content_of (stored S.Store store.old)) earlier.now disk.now ≡ Ok (Some log)) }
     ensures cause { IfErr result (IsNotRead S.Store (λ u. judged_log (content_of (stored S.Store store.old)) earlier.now disk.now ≡ Err u) store.old store.new) }
 {
@@ -100,6 +100,8 @@ fn read_next<S: Store>(
     ensures only { OnlyReads S.Store store.old store.new }
     ensures calm { result ≢ Err fault.Device → S.faults store.new ≡ S.faults store.old }
     ensures absent { IfOk result (λ found. IfSome found (λ log. log_of log.disk earlier.now ≡ None)) }
+    ensures own { IfOk result (λ found. IfSome found (IsReadOf (table_alone (S.table store.old)) (S.site store.old).geometry.extent disk.now.disk disk.now.pieces)) }
+    ensures none { IfOk result (λ found. IfNone found (is_to_read (table_alone (S.table store.old)) earlier.now disk.now ≡ false)) }
     ensures next { S.told → IfOk result (λ found. next_log (content_of (stored S.Store store.old)) earlier.now disk.now ≡ Ok found) }
     ensures cause { IfErr result (IsNotRead S.Store (λ u. next_log (content_of (stored S.Store store.old)) earlier.now disk.now ≡ Err u) store.old store.new) }
 {
@@ -124,6 +126,7 @@ pub fn read_logs<S: Store>(
     requires few { length disks.now ≤ 500 }
     ensures only { OnlyReads S.Store store.old store.new }
     ensures calm { result ≢ Err fault.Device → S.faults store.new ≡ S.faults store.old }
+    ensures read { IfOk result (AreReadOf (table_alone (S.table store.old)) (S.site store.old).geometry.extent disks.now) }
     ensures logs { S.told → IfOk result (λ logs. logs_read (content_of (stored S.Store store.old)) disks.now ≡ Ok logs) }
     ensures cause { IfErr result (IsNotRead S.Store (λ u. logs_read (content_of (stored S.Store store.old)) disks.now ≡ Err u) store.old store.new) }
 {

@@ -9,7 +9,7 @@ ghost use Rattle.vg_meta.specs.Roomy.{table_alone};
 ghost use Rattle.vg_volumes.specs.Stored.{Counts, Faults, OnlyReads, held_in, sectors_in, stored};
 ghost use Rattle.sm_log.specs.Logs.{log_sectors, sector_bits};
 ghost use Rattle.sm_standing.specs.Logs.{bit_in};
-ghost use Rattle.sm_log_reading.specs.Reading.{content_of, filled_extents, whole_log};
+ghost use Rattle.sm_log_reading.specs.Reading.{IsReadOf, content_of, filled_extents, whole_log};
 
 use sm_base::{CallFault, Failed, Name};
 use sm_log::{Bits, Head};
@@ -93,7 +93,7 @@ pub fn read_log<S: Store>(
     ensures only { OnlyReads S.Store store.old store.new }
     ensures calm { result ≢ Err fault.Device → S.faults store.new ≡ S.faults store.old }
     ensures cause { IfErr result (λ e. (e ≡ fault.NoMemory) ⊎ ((e ≡ fault.Device) × Faults S.Store store.old store.new)) }
-    ensures own { IfOk result (λ found. IfSome found (λ log. log.disk ≡ disk.now)) }
+    ensures own { IfOk result (λ found. IfSome found (IsReadOf (table_alone (S.table store.old)) (S.site store.old).geometry.extent disk.now pieces)) }
     ensures log { S.told → IfOk result (λ found. found ≡ whole_log (content_of (stored S.Store store.old)) disk.now pieces) }
 {
     let Some(extents) = filled_extents(store.table(), disk) else {
