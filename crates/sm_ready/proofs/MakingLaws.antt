@@ -1,6 +1,6 @@
 -- A command makes an image and the record of its disk in a store: a commit that makes the volume, marked new; work on it,
 -- and the record; a commit that takes the mark away. What a stop leaves at each point, and what is known at the end.
-use Rattle.std.proofs.Common.{◌≡◌, inr, ℕ, ◌*◌, ◌≤◌, true, false, List, set, Option, Some, refl, sym, ap, ap₂, ◌∙◌, subst, subst₂, []}
+use Rattle.std.proofs.Common.{◌≡◌, inr, ℕ, ◌*◌, ◌≤◌, true, false, List, set, Option, Some, refl, sym, ap, ap₂, ◌∙◌, subst, subst₂}
 use Rattle.sm_base.specs.declared.names.Name.{Name}
 use Rattle.sm_base.specs.declared.names.Name.TheVariants.{Mgt}
 use Rattle.sm_disk.specs.Held.{Held, Keeps, Torn, Wrote, reads}
@@ -18,6 +18,7 @@ use Rattle.vg_volumes.proofs.StoredLaws.{did_in, beside_in, size_stays}
 use Rattle.vg_volumes.proofs.VolumeLaws.{KeepsAt-none, KeepsElsewhere-same}
 use Rattle.vhd_chain.specs.declared.rows.TreeRow.{TreeRow}
 use Rattle.vhd_chain.specs.Trees.{Tree, with_row}
+use Rattle.sm_log.specs.Logs.{Log}
 use Rattle.sm_machine.specs.Operations.{Op}
 use Rattle.sm_refs.specs.Attached.{Attached}
 use Rattle.vhd_image.specs.Steady.{IsSteady}
@@ -124,12 +125,13 @@ module _ {S : Type 0} {g : Ghosts S} {a : S} {m : Memory} {own : Name} {es : Lis
             subst₂ IsTidy (sym table_end) (sym is) (tidy_made (g.site a) (tab g a) (known m) own es added k r h.begins)
 
 -- memory has the record in its place, then the image
-pub known_made : (m f n : Memory) (added : TreeRow) (k : ℕ) (r : Record) → f.tree ≡ m.tree → f.attached ≡ m.attached → f.operation ≡ m.operation → f.records ≡ set m.records k (Some r)
-    → n.tree.rows ≡ with_row added f.tree.rows → n.records ≡ f.records → n.attached ≡ f.attached → n.operation ≡ f.operation → known n ≡ made_memory added k r (known m)
-known_made m f n added k r tree attached operation records rows_are records_are attached_are operation_is =
-    ap₂ (λ (rs : List TreeRow) (ps : List (Option Record)). let x : Known = record { rows = rs; places = ps; logs = []; attached = n.attached; op = n.operation } in x)
+pub known_made : (m f n : Memory) (added : TreeRow) (k : ℕ) (r : Record) → f.tree ≡ m.tree → f.logs ≡ m.logs → f.attached ≡ m.attached → f.operation ≡ m.operation → f.records ≡ set m.records k (Some r)
+    → n.tree.rows ≡ with_row added f.tree.rows → n.records ≡ f.records → n.logs ≡ f.logs → n.attached ≡ f.attached → n.operation ≡ f.operation → known n ≡ made_memory added k r (known m)
+known_made m f n added k r tree logs attached operation records rows_are records_are logs_are attached_are operation_is =
+    ap₂ (λ (rs : List TreeRow) (ps : List (Option Record)). let x : Known = record { rows = rs; places = ps; logs = n.logs; attached = n.attached; op = n.operation } in x)
     (rows_are ∙ ap (λ (x : Tree). with_row added x.rows) tree) (records_are ∙ records)
-    ∙ ap₂ (λ (x : Attached) (o : Op). let y : Known = record { rows = with_row added m.tree.rows; places = set m.records k (Some r); logs = []; attached = x; op = o } in y) (attached_are ∙ attached) (operation_is ∙ operation)
+    ∙ ap₂ (λ (x : Attached) (o : Op). let y : Known = record { rows = with_row added m.tree.rows; places = set m.records k (Some r); logs = n.logs; attached = x; op = o } in y) (attached_are ∙ attached) (operation_is ∙ operation)
+    ∙ ap (λ (ls : List Log). let x : Known = record { rows = with_row added m.tree.rows; places = set m.records k (Some r); logs = ls; attached = m.attached; op = m.operation } in x) (logs_are ∙ logs)
 
 -- ---- what a stop leaves, and what is done at the end
 

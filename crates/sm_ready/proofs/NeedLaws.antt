@@ -1,5 +1,5 @@
 -- What a command takes of extents is below 2^32, where its size is not bad.
-use Rattle.std.proofs.Common.{◌≡◌, inl, inr, ℕ, ◌+◌, ◌-◌, ◌*◌, ◌^◌, ◌<◌, ◌≤◌, ◌==◌, ◌||◌, Bool, true, false, nat_lt, List, Option, Some, None, refl, sym, subst, arith}
+use Rattle.std.proofs.Common.{◌≡◌, inl, inr, ℕ, ◌+◌, ◌-◌, ◌*◌, ◌^◌, ◌<◌, ◌≤◌, ◌==◌, ◌||◌, Bool, true, false, cond, nat_lt, List, [], ◌∷◌, Option, Some, None, refl, sym, subst, arith}
 use Rattle.std.proofs.Math.Logic.{∥∥₁_elim}
 use Rattle.std.proofs.Math.Nat.{mul-lt-mul_of_pos_right}
 use Rattle.std.proofs.Props.{props}
@@ -13,7 +13,9 @@ use Rattle.sm_base.specs.declared.operations.Mode.TheVariants.{Ro, Rw}
 use Rattle.sm_base.proofs.NumberLemmas.{blocks-le, div_up-le, image_fits}
 use Rattle.vg_meta.specs.Tables.{VolumeTable}
 use Rattle.vg_volumes.specs.Sites.{Site}
-use Rattle.sm_machine.specs.Refusals.{fork_need, is_bad, is_bad_size, lacking, lacking_larger, need, new_extents, rounded, wanted, with_image_of}
+use Rattle.std.specs.List.{find}
+use Rattle.sm_log.specs.Logs.{Log, is_log_of, log_extents}
+use Rattle.sm_machine.specs.Refusals.{fork_need, is_bad, is_bad_size, log_need, of_log, lacking, lacking_larger, need, new_extents, rounded, wanted, with_image_of}
 use Rattle.sm_machine.specs.Shapes.{ImageRow, Shape, attached_as, disk_image, is_image_of, is_rw, is_vhd, thick_in, thin_in}
 use Rattle.sm_machine.specs.WellFormed.{IsWellFormed}
 use Rattle.sm_machine.specs.declared.commands.Command.{Command}
@@ -37,12 +39,22 @@ is_within σ size good =
     let n = rounded σ false size in
     ltb-false (σ.entries * σ.block) n (or_parts (size == 0) _ (or_parts ((size == 0) || nat_lt (σ.entries * σ.block) n) _ good).0).1
 
+-- one log has no more extents than all of them
+log_case : (l : Log) (logs : List Log) (b : Bool) (o : Option Log) → of_log (λ (x : Log). x.extents) o ≤ log_extents logs → of_log (λ (x : Log). x.extents) (cond b (Some l) o) ≤ l.extents + log_extents logs
+log_case l logs true o h = omega arith
+log_case l logs false o h = omega (arith, h)
+
+log_within : (p : Log → Bool) (logs : List Log) → of_log (λ (x : Log). x.extents) (find p logs) ≤ log_extents logs
+unfolding log_extents
+log_within p [] = omega arith
+log_within p (l ∷ logs) = log_case l logs (p l) (find p logs) (log_within p logs)
+
 module _ (σ : Shape) (w : IsWellFormed σ) where
-  few_of : (f : ImageRow → ℕ) (u : List ℕ) → ((i : ImageRow) → In i σ.images → f i < 2 ^ 32) → with_image_of f (disk_image u σ) < 2 ^ 32
-  few_of f u few = by (disk_image u σ) refl
+  few_of : (f : ImageRow → ℕ) (u : List ℕ) (most : ℕ) → 0 < most → ((i : ImageRow) → In i σ.images → f i < most) → with_image_of f (disk_image u σ) < most
+  few_of f u most some few = by (disk_image u σ) refl
     where
-      by : (x : Option ImageRow) → disk_image u σ ≡ x → with_image_of f x < 2 ^ 32
-      by None is = omega arith
+      by : (x : Option ImageRow) → disk_image u σ ≡ x → with_image_of f x < most
+      by None is = some
       by (Some i) is = few i (find-some (is_image_of u) σ.images i is).0
 
   pub thick_row : (i : ImageRow) → In i σ.images → thick_in σ i.size ≤ 2 ^ 27
@@ -68,10 +80,10 @@ module _ (σ : Shape) (w : IsWellFormed σ) where
   few_thin : thin_in σ 0 ≤ 2 ^ 27
   few_thin = thin_few σ.extent σ.block σ.entries 0 w.geometry (omega arith)
 
-  few_fork : (u : List ℕ) (i : ImageRow) → In i σ.images → fork_need σ u i < 2 ^ 32
+  few_fork : (u : List ℕ) (i : ImageRow) → In i σ.images → fork_need σ u i < 2 ^ 29
   few_fork u i at = by (is_rw (attached_as u σ))
     where
-      by : (b : Bool) → wanted σ b i.size + thin_in σ 0 < 2 ^ 32
+      by : (b : Bool) → wanted σ b i.size + thin_in σ 0 < 2 ^ 29
       by true = omega (arith, thick_row i at, few_thin)
       by false = omega (arith, few_thin)
 
@@ -85,18 +97,22 @@ module _ (σ : Shape) (w : IsWellFormed σ) where
         | inr under ↦ omega (arith, under, most)
       ]
 
-  few_need : (c : Command) → σ.extents ≤ extent_limit → is_bad_size σ c ≡ false → need σ c < 2 ^ 32
-  unfolding need is_bad_size
-  few_need (Create u size true label) most good = few_raw size most good
-  few_need (Create u size false label) most good = omega (arith, few_thin)
-  few_need (Attach u Rw) most good = few_of (lacking σ) u few_lacking
-  few_need (Attach u Ro) most good = omega arith
-  few_need (Resize u size) most good = few_of (lacking_larger σ u (rounded σ false size)) u (λ i at. few_larger u (rounded σ false size) (is_within σ size good) i)
-  few_need (Snapshot u twin) most good = few_of (fork_need σ u) u (few_fork u)
-  few_need (Clone u twin) most good = few_of (fork_need σ u) u (few_fork u)
-  few_need _ most good = omega arith
+  few_need : (c : Command) → σ.extents ≤ extent_limit → log_extents σ.logs ≤ σ.others → is_bad_size σ c ≡ false → need σ c < 2 ^ 32
+  unfolding need log_need is_bad_size
+  few_need (Create u size true label) most logs good = few_raw size most good
+  few_need (Create u size false label) most logs good = omega (arith, few_thin)
+  few_need (Attach u Rw) most logs good = few_of (lacking σ) u (2 ^ 32) (omega arith) few_lacking
+  few_need (Attach u Ro) most logs good = omega arith
+  few_need (Resize u size) most logs good = few_of (lacking_larger σ u (rounded σ false size)) u (2 ^ 32) (omega arith) (λ i at. few_larger u (rounded σ false size) (is_within σ size good) i)
+  few_need (Snapshot u twin) most logs good =
+      let fork : with_image_of (fork_need σ u) (disk_image u σ) < 2 ^ 29 = few_of (fork_need σ u) u (2 ^ 29) (omega arith) (few_fork u) in
+      omega (arith, fork, log_within (is_log_of u) σ.logs, logs, w.room, most)
+  few_need (Clone u twin) most logs good =
+      let fork : with_image_of (fork_need σ u) (disk_image u σ) < 2 ^ 29 = few_of (fork_need σ u) u (2 ^ 29) (omega arith) (few_fork u) in
+      omega (arith, fork)
+  few_need _ most logs good = omega arith
 
 -- the extents that a command takes are below 2^32
 pub need_few : (s : Site) (t : VolumeTable) (m : Known) (c : Command) → IsOrderly s t m → is_bad_size (shape_in s t m) c ≡ false → need (shape_in s t m) c < 2 ^ 32
 unfolding shape_in
-need_few s t m c o good = ∥∥₁_elim o.well_formed (hlevel props) (λ w. few_need (shape_in s t m) w c o.few_extents good)
+need_few s t m c o good = ∥∥₁_elim o.well_formed (hlevel props) (λ w. few_need (shape_in s t m) w c o.few_extents (omega arith) good)

@@ -63,9 +63,9 @@ same_name (Ok x) k old new ok err = ap volume_name ok ∙ sized_name k old
 same_name (Err x) k old new ok err = ap volume_name err
 
 -- all but the row is as it was
-pub beside_resized : (old new : Memory) (q : TreeRow) → new.tree.rows ≡ with_replaced q old.tree.rows → new.tree.spare ≡ old.tree.spare → new.records ≡ old.records → new.attached ≡ old.attached → new.operation ≡ old.operation → IsBesideTree old new
-beside_resized old new q rows spare records attached operation =
-    record { images = ap length rows ∙ length-map old.tree.rows _; spare = spare; records = records; attached = attached; operation = operation }
+pub beside_resized : (old new : Memory) (q : TreeRow) → new.tree.rows ≡ with_replaced q old.tree.rows → new.tree.spare ≡ old.tree.spare → new.records ≡ old.records → new.logs ≡ old.logs → new.attached ≡ old.attached → new.operation ≡ old.operation → IsBesideTree old new
+beside_resized old new q rows spare records logs attached operation =
+    record { images = ap length rows ∙ length-map old.tree.rows _; spare = spare; records = records; logs = logs; attached = attached; operation = operation }
 
 module _ (s : Site) (t : VolumeTable) (m : Known) (o : IsOrderly s t m) (own : TreeRow) (there : In own m.rows) where
   -- the row is back in its place

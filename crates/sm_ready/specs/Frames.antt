@@ -19,5 +19,6 @@ pub record IsBesideTree (old new : Memory) : Type 0 where
   pub images : length new.tree.rows ≡ length old.tree.rows
   pub spare : new.tree.spare ≡ old.tree.spare
   pub records : new.records ≡ old.records
+  pub logs : new.logs ≡ old.logs
   pub attached : new.attached ≡ old.attached
   pub operation : new.operation ≡ old.operation

@@ -28,9 +28,9 @@ pub record Known : Type 0 where
   pub attached : Attached
   pub op : Op
 
--- what a session's memory says; it keeps no log yet, as no repository that is opened has one
+-- what a session's memory says
 abbrev pub known : Memory → Known
-known m = record { rows = m.tree.rows; places = m.records; logs = []; attached = m.attached; op = m.operation }
+known m = record { rows = m.tree.rows; places = m.records; logs = m.logs; attached = m.attached; op = m.operation }
 
 -- an image as the machine has it
 abbrev pub machine_row : TreeRow → ImageRow

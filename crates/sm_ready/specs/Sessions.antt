@@ -61,7 +61,8 @@ pub record IsAtEase (m : Memory) : Type 0 where
   pub idle : m.operation ≡ Idle
   pub unattached : m.attached.disks ≡ []
 
--- the attachments and the collector's operation stay
+-- the logs, the attachments and the collector's operation stay
 pub record StaysInUse (old new : Memory) : Type 0 where
+  pub logs : new.logs ≡ old.logs
   pub attached : new.attached ≡ old.attached
   pub operation : new.operation ≡ old.operation

@@ -2,7 +2,7 @@
 //! each kind of change makes of it.
 //!
 //! **What is kept here.** [`Memory`] is what a session keeps in memory beside its store: the tree of the images, the records
-//! of the disks, the attachments, and what the collector is doing.
+//! of the disks, the logs of tracked disks, the attachments, and what the collector is doing.
 //!
 //! **What it is.** `Known` is what a contract sees of it. `shape_in` is the machine's shape, read off the table and memory
 //! alone; `outline_in` is what the checks of an opening look at, read off the same. `IsOrderly` and `IsTidy` say what

@@ -1,5 +1,6 @@
 //! What is in memory.
 
+use sm_logs::Logs;
 use sm_mgt::Mgt;
 use sm_operation::Operation;
 use sm_refs::Attachments;
@@ -12,6 +13,8 @@ pub struct Memory {
     pub tree: Tree,
     /// The places of the disks' records.
     pub records: Mgt,
+    /// The logs of tracked disks.
+    pub logs: Logs,
     /// The attached disks, and how many of them use each volume.
     pub attached: Attachments,
     /// What the collector is doing.

@@ -1,6 +1,7 @@
 //! Sizes in sectors, and the extents that a command takes.
 
 ghost use Rattle.std.specs.Prelude.{◌≡◌, ◌≤◌, ◌<◌, ◌*◌, ◌^◌};
+ghost use Rattle.sm_log.specs.Logs.{log_of};
 ghost use Rattle.sm_machine.specs.Refusals as machine;
 ghost use Rattle.sm_machine.specs.Shapes.{attached_as, disk_image, is_rw, thick_in, thin_in};
 ghost use Rattle.sm_ready.specs.Known.{known, machine_row};
@@ -100,10 +101,22 @@ fn wanted(memory: &Memory, geometry: &Geometry, disk: &Uuid, sectors: u64) -> u6
 
 /// The extents of the two images that a fork makes: the disk's own, and the twin.
 fn fork_need(memory: &Memory, geometry: &Geometry, disk: &Uuid) -> u64
-    ensures { Measures (λ σ. machine.with_image_of (machine.fork_need σ disk.now) (disk_image disk.now σ)) geometry.now (known memory.now) result }
+    ensures exact { Measures (λ σ. machine.with_image_of (machine.fork_need σ disk.now) (disk_image disk.now σ)) geometry.now (known memory.now) result }
+    ensures few { result < 2 ^ 33 }
 {
     match image(memory, disk) {
         Some(row) => wanted(memory, geometry, disk, row.image.sectors()) + thin(geometry),
+        None => 0,
+    }
+}
+
+/// The extents of a disk's log, which those of a snapshot's log are too.
+fn log_need(memory: &Memory, disk: &Uuid) -> u64
+    ensures exact { result ≡ machine.of_log (λ l. l.extents) (log_of disk.now memory.now.logs) }
+    ensures few { result < 2 ^ 32 }
+{
+    match memory.logs.get(disk) {
+        Some(log) => u64::from(log.extents()),
         None => 0,
     }
 }
@@ -128,7 +141,9 @@ pub fn need(memory: &Memory, geometry: &Geometry, command: &Command) -> u64
             let sectors = rounded(geometry, false, *size);
             lacking_larger(memory, geometry, disk, sectors)
         }
-        Command::Snapshot { disk, .. } => fork_need(memory, geometry, disk),
+        Command::Snapshot { disk, .. } => {
+            fork_need(memory, geometry, disk) + log_need(memory, disk)
+        }
         Command::Clone { disk, .. } => fork_need(memory, geometry, disk),
         _ => 0,
     }

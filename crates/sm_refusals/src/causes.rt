@@ -164,6 +164,16 @@ pub(crate) fn is_raw_disk(memory: &Memory, command: &Command) -> bool
     }
 }
 
+/// Resize: whether the disk is tracked.
+pub(crate) fn is_tracked(memory: &Memory, command: &Command) -> bool
+    ensures { Recalls (λ σ. machine.is_tracked σ command.now) (known memory.now) result }
+{
+    match command {
+        Command::Resize { disk, .. } => memory.logs.get(disk).is_some(),
+        _ => false,
+    }
+}
+
 /// Whether so many sectors from one on are none, or not all among the first so many.
 fn is_past(size: u64, sector: u64, count: u64) -> bool
     ensures { result ≡ ((count == 0) || nat_lt size (sector + count)) }

@@ -1,7 +1,7 @@
 //! Why a command is refused: the first cause, by the table and by what is in memory.
 //!
 //! Kept here: nothing. No call takes memory, and none calls a store. Sizes are in bytes where a command gives them, else in
-//! sectors; room is counted in extents. An answer costs a few look-ups among the images, the records and the attachments, one
+//! sectors; room is counted in extents. An answer costs a few look-ups among the images, the records, the logs and the attachments, one
 //! pass over the chain of a disk that another is made of, and one over the extents of the table for the free ones.
 
 ghost use Rattle.std.specs.Prelude.{◌≡◌, ◌<◌, ◌^◌};
@@ -14,7 +14,8 @@ ghost use Rattle.sm_ready.specs.Refusing.{Answers, LacksRoom, Recalls, name_caus
 
 use crate::causes::{
     fork_depth, images_needed, is_bad_size, is_deep, is_in_use, is_not_attached, is_out_of_range,
-    is_raw_disk, is_read_only, is_reserved, is_shrink, is_spent, is_taken, is_too_many, is_unknown,
+    is_raw_disk, is_read_only, is_reserved, is_shrink, is_spent, is_taken, is_too_many, is_tracked,
+    is_unknown,
 };
 use sm_base::{Geometry, Refusal};
 use sm_machine::Command;
@@ -44,7 +45,7 @@ pub fn refuse(
     refuse_by_room(table, memory, geometry, extents, command)
 }
 
-/// The first cause of names, records and attachments.
+/// The first cause of names, records, attachments and logs.
 fn refuse_by_name(memory: &Memory, command: &Command) -> Option<Refusal>
     ensures { Recalls (λ σ. first_some (name_causes σ command.now)) (known memory.now) result }
 {
@@ -68,6 +69,9 @@ fn refuse_by_name(memory: &Memory, command: &Command) -> Option<Refusal>
     }
     if is_raw_disk(memory, command) {
         return Some(Refusal::RawDisk);
+    }
+    if is_tracked(memory, command) {
+        return Some(Refusal::Tracked);
     }
     None
 }

@@ -1,10 +1,10 @@
-use Rattle.std.proofs.Common.{◌≡◌, ◌≤◌, ◌*◌, ℕ, Bool, false, List, refl, sym, ap, ◌∙◌, subst}
+use Rattle.std.proofs.Common.{◌≡◌, ◌≤◌, ◌+◌, ◌*◌, ℕ, Bool, false, List, refl, sym, ap, ap₂, ◌∙◌, subst}
 use Rattle.sm_base.specs.declared.operations.Mode.{Mode}
 use Rattle.sm_machine.specs.declared.commands.Command.{Command}
 use Rattle.sm_machine.specs.declared.commands.Command.TheVariants as command
 use Rattle.sm_machine.specs.Shapes.{Shape}
 use Rattle.sm_base.specs.declared.sizes.Geometry.{Geometry}
-use Rattle.sm_machine.specs.Refusals.{is_bad_size, need, rounded}
+use Rattle.sm_machine.specs.Refusals.{is_bad_size, log_need, need, rounded}
 use Rattle.sm_ready.specs.Known.{known, shape_in}
 use Rattle.sm_ready.specs.Refusing.{extents_for}
 use Rattle.sm_ready.proofs.NeedLaws.{is_within}
@@ -50,12 +50,13 @@ returns-in-Resize c = λ s t same o tidy good.
     ∙ sym (ap (need σ) c.in-Resize.is)
 
 pub returns-in-Snapshot : goal.returns-in-Snapshot
-unfolding need
-returns-in-Snapshot c = λ s t same o tidy good. c.fork_need.ensures s t same o tidy ∙ sym (ap (need (shape_in s t (known c.args.memory.now))) c.in-Snapshot.is)
+unfolding need log_need shape_in
+returns-in-Snapshot c = λ s t same o tidy good.
+    ap₂ (λ a b. a + b) (c.fork_need.ensures.exact s t same o tidy) c.log_need.ensures.exact ∙ sym (ap (need (shape_in s t (known c.args.memory.now))) c.in-Snapshot.is)
 
 pub returns-in-Clone : goal.returns-in-Clone
 unfolding need
-returns-in-Clone c = λ s t same o tidy good. c.fork_need-in-Clone.ensures s t same o tidy ∙ sym (ap (need (shape_in s t (known c.args.memory.now))) c.in-Clone.is)
+returns-in-Clone c = λ s t same o tidy good. c.fork_need-in-Clone.ensures.exact s t same o tidy ∙ sym (ap (need (shape_in s t (known c.args.memory.now))) c.in-Clone.is)
 
 pub returns-in_default : goal.returns-in_default
 returns-in_default c = λ s t same o tidy good. other (shape_in s t (known c.args.memory.now)) c.args.command.now c.in_default.not-Create c.in_default.not-Attach c.in_default.not-Resize c.in_default.not-Snapshot c.in_default.not-Clone
