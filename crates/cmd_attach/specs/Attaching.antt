@@ -10,8 +10,9 @@ use Rattle.sm_ready.specs.declared.memory.Memory.{Memory}
 abbrev pub AreImages : List TreeRow → Type 0
 AreImages rows = (r : TreeRow) → In r rows → is_image_name (row_name r) ≡ true
 
--- the images, the records and the collector's operation stay
+-- the images, the records, the logs and the collector's operation stay
 pub record StaysBeside (old new : Memory) : Type 0 where
   pub tree : new.tree ≡ old.tree
   pub records : new.records ≡ old.records
+  pub logs : new.logs ≡ old.logs
   pub operation : new.operation ≡ old.operation

@@ -31,6 +31,7 @@ pub fn detach<S: Store>(store: &mut S, memory: &mut Memory, disk: &Uuid) -> Resu
     ensures session_still { OnOk result (IsBetweenSteps S.Store store.new memory.new) }
     ensures kept_between { folds memory.old.operation disk.now ≡ false → IsBetweenSteps S.Store store.new memory.new }
     ensures others { (memory.new.tree ≡ memory.old.tree) × (memory.new.records ≡ memory.old.records) }
+    ensures logs { memory.new.logs ≡ memory.old.logs }
     ensures attached { OnErr result (memory.new.attached ≡ memory.old.attached) }
     ensures operation { OnOk result (memory.new.operation ≡ unfolded memory.old.operation disk.now) }
     ensures shape { OnOk result (ShapesAs S.Store (command.Detach disk.now) store.old memory.old store.new memory.new) }

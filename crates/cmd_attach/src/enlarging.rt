@@ -44,6 +44,7 @@ fn attach_kept<S: Store>(
     ensures cause { Counts S.Store result store.old store.new }
     ensures session_still { OnOk result (IsBetweenSteps S.Store store.new memory.new) }
     ensures others { (memory.new.records ≡ memory.old.records) × (memory.new.operation ≡ memory.old.operation) }
+    ensures logs { memory.new.logs ≡ memory.old.logs }
     ensures least { OnOk result (0 < needed (store_shape S.Store store.old memory.old) (command.Attach disk.now mode)
         → IsEnlarged (S.site store.old).count (table_alone (S.table store.old)) disk.now
         (extents_in (tree_row memory.old.tree.rows (Vhd disk.now)) + needed (store_shape S.Store store.old memory.old) (command.Attach disk.now mode)) (table_alone (S.table store.new))) }
@@ -75,6 +76,7 @@ fn attach_given<S: Store>(
     ensures cause { Counts S.Store result store.old store.new }
     ensures session_still { OnOk result (IsBetweenSteps S.Store store.new memory.new) }
     ensures others { memory.new.records ≡ memory.old.records }
+    ensures logs { memory.new.logs ≡ memory.old.logs }
     ensures operation { OnOk result (memory.new.operation ≡ unfolded memory.old.operation disk.now) }
     ensures least { OnOk result (0 < needed (store_shape S.Store store.old memory.old) (command.Attach disk.now mode)
         → IsEnlarged (S.site store.old).count (unfolded_table memory.old.operation disk.now (table_alone (S.table store.old))) disk.now
@@ -110,6 +112,7 @@ pub fn attach<S: Store>(
         → OnlyReads S.Store store.old store.new × ((t : VolumeTable) (image : ℕ → List ℕ) → S.leaves store.new t image → S.leaves store.old t image)
         × (memory.new ≡ memory.old) }
     ensures others { memory.new.records ≡ memory.old.records }
+    ensures logs { memory.new.logs ≡ memory.old.logs }
     ensures operation { OnOk result (memory.new.operation ≡ unfolded memory.old.operation disk.now) }
     ensures least { OnOk result (0 < needed (store_shape S.Store store.old memory.old) (command.Attach disk.now mode)
         → IsEnlarged (S.site store.old).count (unfolded_table memory.old.operation disk.now (table_alone (S.table store.old))) disk.now

@@ -61,6 +61,7 @@ use Rattle.sm_ready.specs.Sessions.{HasTreeRoom, IsOrderlyStore, IsTidyStore}
 use Rattle.sm_ready.specs.Does.{ShapesAs, StoreDoes}
 use Rattle.sm_ready.specs.Frames.{HasTrueImages}
 use Rattle.sm_refs.specs.Attached.{Attached}
+use Rattle.sm_log.specs.Logs.{Log}
 use Rattle.sm_machine.specs.Operations.{Op}
 use Rattle.sm_ready.specs.Stores.{MayShow, StoreLeaves, content_in, content_now, store_content}
 use Rattle.sm_ready.specs.declared.memory.Memory.{Memory}
@@ -242,11 +243,12 @@ less_disks u ds = filter (λ d. not (is_disk u d)) ds
 abbrev pub ended : Name → List ℕ → Known → Known
 ended x u m = with_places (map (cleared u) m.places) (without_image_of x m)
 
-pub known_ended : (m n : Memory) (x y : Name) (u : List ℕ) → x ≡ y → n.tree.rows ≡ without x m.tree.rows → n.records ≡ map (cleared u) m.records → n.attached ≡ m.attached → n.operation ≡ m.operation
+pub known_ended : (m n : Memory) (x y : Name) (u : List ℕ) → x ≡ y → n.tree.rows ≡ without x m.tree.rows → n.records ≡ map (cleared u) m.records → n.logs ≡ m.logs → n.attached ≡ m.attached → n.operation ≡ m.operation
     → known n ≡ ended y u (known m)
-known_ended m n x y u same rows_are records_are attached_are operation_is =
-    ap₂ (λ (rs : List TreeRow) (ps : List (Option Record)). let k : Known = record { rows = rs; places = ps; logs = []; attached = n.attached; op = n.operation } in k) (rows_are ∙ ap (λ z. without z m.tree.rows) same) records_are
-    ∙ ap₂ (λ (z : Attached) (o : Op). let k : Known = record { rows = without y m.tree.rows; places = map (cleared u) m.records; logs = []; attached = z; op = o } in k) attached_are operation_is
+known_ended m n x y u same rows_are records_are logs_are attached_are operation_is =
+    ap₂ (λ (rs : List TreeRow) (ps : List (Option Record)). let k : Known = record { rows = rs; places = ps; logs = n.logs; attached = n.attached; op = n.operation } in k) (rows_are ∙ ap (λ z. without z m.tree.rows) same) records_are
+    ∙ ap₂ (λ (z : Attached) (o : Op). let k : Known = record { rows = without y m.tree.rows; places = map (cleared u) m.records; logs = n.logs; attached = z; op = o } in k) attached_are operation_is
+    ∙ ap (λ (ls : List Log). let k : Known = record { rows = without y m.tree.rows; places = map (cleared u) m.records; logs = ls; attached = m.attached; op = m.operation } in k) logs_are
 
 module _ {S : Type 0} (g : Ghosts S) (a : S) (m : Memory) {u : List ℕ} (d : IsToDelete (g.site a) (tab g a) (known m) u) {x : Name} (is : x ≡ volume d) where
   abbrev less_known : Known
@@ -314,11 +316,12 @@ module _ {S : Type 0} {g : Ghosts S} {a : S} {m : Memory} {u : List ℕ} (h : Is
   stops stop v image l = subst (λ n. IsEitherOf (stored g a) (Remove n) v image) is (stop v image l)
 
   -- the commit failed
-  pub remove_failed : {b : S} (n : Memory) (ok : Type 0) → (ok → ⊥) → FailsToCommit g a b → ((v : VolumeTable) (image : ℕ → List ℕ) → g.leaves b v image → IsEitherOf (stored g a) (Remove x) v image)
+  pub remove_failed : {b : S} (n : Memory) (ok : Type 0) → (ok → ⊥) → n.logs ≡ m.logs → FailsToCommit g a b → ((v : VolumeTable) (image : ℕ → List ℕ) → g.leaves b v image → IsEitherOf (stored g a) (Remove x) v image)
       → StoreDoes g (Delete u) a m b n ok
   unfolding disks_next
-  remove_failed n ok never fails stop =
-      let done = first ok (commit_failed g (Remove (volume d)) ok never refl refl h.told fails (stops stop)) in only_crash never done.crash done.logged
+  remove_failed n ok never same_logs fails stop =
+      let done = first ok (commit_failed g (Remove (volume d)) ok never refl refl h.told fails (stops stop)) in
+      only_crash never done.crash (λ v image l. subst (IsLogged (content_in (g.site a) v image)) (sym same_logs) (done.logged v image l))
 
   module _ {b : S} (c : Commits g (Remove x) a b) (stop : (v : VolumeTable) (image : ℕ → List ℕ) → g.leaves b v image → IsEitherOf (stored g a) (Remove x) v image) where
     abbrev orderly_b : IsOrderly (g.site b) (tab g b) (less_known g a m d is)
@@ -359,8 +362,8 @@ module _ {S : Type 0} {g : Ghosts S} {a : S} {m : Memory} {u : List ℕ} (h : Is
           )
 
       -- and it has the logs of memory
-      cleared_logged : (v : VolumeTable) (image : ℕ → List ℕ) → IsBefore (area_size (g.site b)) (tab g b) (g.area e) v image → IsLogged (content_in (g.site a) v image) (known m).logs
-      cleared_logged v image at = subst (λ z. IsLogged (content_in z v image) (known m).logs) c.site (logged_before
+      cleared_logged : (logs : List Log) → logs ≡ m.logs → (v : VolumeTable) (image : ℕ → List ℕ) → IsBefore (area_size (g.site b)) (tab g b) (g.area e) v image → IsLogged (content_in (g.site a) v image) logs
+      cleared_logged logs same v image at = subst₂ (λ z ls. IsLogged (content_in z v image) ls) c.site (sym same) (logged_before
           (holds_keeps (holds_ready (g.site b) (tab g b) (g.area b) (less_known g a m d is) orderly_b ready_b) (g.area e) swept.logs) orderly_b.table v image at)
 
       left_cleared : (v : VolumeTable) (image : ℕ → List ℕ) → StoreLeaves g e v image → IsBefore (area_size (g.site b)) (tab g b) (g.area e) v image
@@ -368,9 +371,9 @@ module _ {S : Type 0} {g : Ghosts S} {a : S} {m : Memory} {u : List ℕ} (h : Is
           subst₂ (λ y z. IsBefore (area_size y) z (g.area e) v image) w.stays.site w.stays.table (left_choice g.told (g.site e) (tab g e) (g.area e) (g.leaves e) (g.failed e) choice v image l)
 
       -- a write failed
-      pub clear_failed : (n : Memory) (ok : Type 0) → (ok → ⊥) → StoreDoes g (Delete u) a m e n ok
+      pub clear_failed : (n : Memory) (ok : Type 0) → (ok → ⊥) → n.logs ≡ m.logs → StoreDoes g (Delete u) a m e n ok
       unfolding disks_next
-      clear_failed n ok never = only_crash never (λ v image l. cleared_crash v image (left_cleared v image l)) (λ v image l. cleared_logged v image (left_cleared v image l))
+      clear_failed n ok never same_logs = only_crash never (λ v image l. cleared_crash v image (left_cleared v image l)) (λ v image l. cleared_logged n.logs same_logs v image (left_cleared v image l))
 
       module _ {f : S} (y : IsSynced g e f) where
         left_end : (v : VolumeTable) (image : ℕ → List ℕ) → StoreLeaves g f v image → IsBefore (area_size (g.site b)) (tab g b) (g.area e) v image
@@ -383,9 +386,9 @@ module _ {S : Type 0} {g : Ghosts S} {a : S} {m : Memory} {u : List ℕ} (h : Is
         end_crash v image l = cleared_crash v image (left_end v image l)
 
         -- the sync behind them failed
-        pub end_failed : (n : Memory) (ok : Type 0) → (ok → ⊥) → StoreDoes g (Delete u) a m f n ok
+        pub end_failed : (n : Memory) (ok : Type 0) → (ok → ⊥) → n.logs ≡ m.logs → StoreDoes g (Delete u) a m f n ok
         unfolding disks_next
-        end_failed n ok never = only_crash never end_crash (λ v image l. cleared_logged v image (left_end v image l))
+        end_failed n ok never same_logs = only_crash never end_crash (λ v image l. cleared_logged n.logs same_logs v image (left_end v image l))
 
         module _ (settled : IsSettled (g.area f)) (wrote : Writes g Mgt (WroteZeros (HasRecordAt m.records u)) b e) where
           agrees : Agrees (records_held (g.site b) (tab g b) (g.area f)) (map (cleared u) m.records)
@@ -409,7 +412,7 @@ module _ {S : Type 0} {g : Ghosts S} {a : S} {m : Memory} {u : List ℕ} (h : Is
                 settled = λ _. settled;
                 shown = λ _. subst₂ (λ k t. disks (content_now k t (g.area f)) ≡ less_disks u was_disks) c.site table shown_end;
                 crash = end_crash;
-                logged = λ v image l. cleared_logged v image (left_end v image l);
+                logged = λ v image l. cleared_logged n.logs (ap (λ (k : Known). k.logs) memory) v image (left_end v image l);
               }
 
 -- ---- room

@@ -62,6 +62,7 @@ pub fn delete<S: Store>(store: &mut S, memory: &mut Memory, disk: &Uuid) -> Resu
     ensures cause { Counts S.Store result store.old store.new }
     ensures session_still { OnOk result (IsBetweenSteps S.Store store.new memory.new) }
     ensures others { memory.new.attached ≡ memory.old.attached }
+    ensures logs { memory.new.logs ≡ memory.old.logs }
     ensures operation { OnOk result (memory.new.operation ≡ unfolded memory.old.operation disk.now) }
     ensures shape { OnOk result (ShapesAs S.Store (command.Delete disk.now) store.old memory.old store.new memory.new) }
     ensures done { S.told → IsReadyStore S.Store store.old memory.old

@@ -159,6 +159,7 @@ fn fill_disk<S: Store>(
     ensures stays { Stays S.Store store.old store.new }
     ensures cause { Counts S.Store result store.old store.new }
     ensures others { (memory.new.tree ≡ memory.old.tree) × (memory.new.attached ≡ memory.old.attached) × (memory.new.operation ≡ memory.old.operation) }
+    ensures logs { memory.new.logs ≡ memory.old.logs }
     ensures middle { S.told → IsMiddle (S.site store.old) (table_alone (S.table store.old)) (known memory.old) (S.area store.old) (S.area store.new) (unwrap_or (place_for memory.old.records entry.uuid) 0) entry }
     ensures filled { OnOk result (S.told → IsFilled (S.site store.old) (table_alone (S.table store.old)) entry (unwrap_or (place_for memory.old.records entry.uuid) 0) (S.area store.old) (S.area store.new)) }
     ensures kept { OnOk result (memory.new.records ≡ slice_set memory.old.records (unwrap_or (place_for memory.old.records entry.uuid) 0) (Some entry)) }
@@ -192,6 +193,7 @@ fn add_image(memory: &mut Memory, disk: Uuid, extents: u32, sectors: u64)
     ensures rows { memory.new.tree.rows ≡ with_row (raw_row disk extents sectors) memory.old.tree.rows }
     ensures spare { memory.new.tree.spare + 1 ≡ memory.old.tree.spare }
     ensures others { (memory.new.records ≡ memory.old.records) × (memory.new.attached ≡ memory.old.attached) × (memory.new.operation ≡ memory.old.operation) }
+    ensures logs { memory.new.logs ≡ memory.old.logs }
 {
     memory.tree.add(TreeRow {
         image: Image::raw(&Name::Raw(disk), sectors),

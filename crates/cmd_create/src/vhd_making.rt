@@ -91,6 +91,7 @@ fn write_disk<S: Store>(
     ensures stays { Stays S.Store store.old store.new }
     ensures cause { Counts S.Store result store.old store.new }
     ensures others { (memory.new.tree ≡ memory.old.tree) × (memory.new.attached ≡ memory.old.attached) × (memory.new.operation ≡ memory.old.operation) }
+    ensures logs { memory.new.logs ≡ memory.old.logs }
     ensures middle { S.told → IsMiddle (S.site store.old) (table_alone (S.table store.old)) (known memory.old) (S.area store.old) (S.area store.new)
         (unwrap_or (place_for memory.old.records entry.uuid) 0) entry }
     ensures image { IfOk result (λ image. image ≡ Vhd (begun_head (S.site store.old) (table_alone (S.table store.old)) entry.uuid now sectors)

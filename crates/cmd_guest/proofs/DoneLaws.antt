@@ -239,7 +239,7 @@ module _ {S : Type 0} (g : Ghosts S) (a b : S) (m n : Memory) (u : List ℕ) (at
     logged : (v : VolumeTable) (image : ℕ → List ℕ) → StoreLeaves g b v image → IsLogged (content_in s v image) (known n).logs
     logged v image l =
         let x = left_now v image l in
-        subst (λ y. IsLogged (content_in s y image) (known n).logs) (sym x.0) (logged_left (holds_keeps (holds_ready s t (g.area a) (known m) orderly ready) (g.area b)
+        subst₂ (λ y (k : Known). IsLogged (content_in s y image) k.logs) (sym x.0) (sym memory) (logged_left (holds_keeps (holds_ready s t (g.area a) (known m) orderly ready) (g.area b)
         (λ w. other_keeps s t (g.area a) (g.area b) (row_name r) (Cbt w) orderly.table (extent_some s t (known m) orderly) (works.elsewhere told) (name_apart (row_name r) (named_row s t (known m) r orderly own.there) w)))
         orderly.table image x.1)
 

@@ -7,6 +7,7 @@ use Rattle.sm_base.specs.declared.operations.Mode.TheVariants.{Ro, Rw}
 use Rattle.sm_machine.specs.Operations.{Op}
 use Rattle.sm_machine.specs.Operations as op
 use Rattle.sm_disk.specs.Held.{IsSettled}
+use Rattle.sm_log.specs.Logs.{Log}
 use Rattle.vg_meta.specs.Changes.{applied}
 use Rattle.vg_meta.specs.Tables.{VolumeTable}
 use Rattle.vg_meta.specs.declared.changes.Change.TheVariants.{Remove}
@@ -15,7 +16,7 @@ use Rattle.vg_volumes.specs.Stored.{Commits, IsChoiceOf, stored}
 use Rattle.vg_volumes.specs.declared.stores.Store.{Ghosts}
 use Rattle.sm_machine.specs.Commits.{commits, folds, gives_up, is_given_up, one_if, own_commits}
 use Rattle.sm_machine.specs.Disks.{Disk}
-use Rattle.sm_machine.specs.Refusals.{forked, is_bad_size, is_deep, is_in_use, is_not_attached, is_out_of_range, is_raw_disk, is_read_only, is_shrink, is_spent, is_taken, is_too_many, is_unknown, lacks_space, named, need, new_uuid, refusal, rounded}
+use Rattle.sm_machine.specs.Refusals.{forked, is_bad_size, is_deep, is_in_use, is_not_attached, is_out_of_range, is_raw_disk, is_tracked, log_need, is_read_only, is_shrink, is_spent, is_taken, is_too_many, is_unknown, lacks_space, named, need, new_uuid, refusal, rounded}
 use Rattle.sm_machine.specs.Shapes.{Shape, free, image_uuid, risen}
 use Rattle.sm_machine.specs.Steps.{disks_next, given_up, shape_after, shape_next}
 use Rattle.sm_machine.specs.declared.commands.Command.{Command}
@@ -45,7 +46,7 @@ use Rattle.gc_abandon.proofs.EndingLaws.{ends, folding_of, leaf_folded, orderly_
 
 -- what it is refused for
 pub refusal_abandoned : (s : Shape) (c : Command) → is_own c ≡ true → refusal (abandoned s) c ≡ refusal s c
-unfolding refusal is_unknown is_taken is_in_use is_not_attached is_read_only is_raw_disk is_out_of_range is_bad_size is_shrink is_deep is_too_many is_spent lacks_space need named new_uuid forked rounded free
+unfolding refusal is_unknown is_taken is_in_use is_not_attached is_read_only is_raw_disk is_tracked is_out_of_range is_bad_size is_shrink is_deep is_too_many is_spent lacks_space log_need need named new_uuid forked rounded free
 refusal_abandoned s (Delete u) own = refl
 refusal_abandoned s (Attach u Rw) own = refl
 refusal_abandoned s (Attach u Ro) own = refl
@@ -111,7 +112,7 @@ next_abandoned s c own is =
 
 -- what a fork is refused for
 pub refusal_forked : (s : Shape) (c : Command) → is_fork c ≡ true → refusal (idle s) c ≡ refusal s c
-unfolding refusal is_unknown is_taken is_in_use is_not_attached is_read_only is_raw_disk is_out_of_range is_bad_size is_shrink is_deep is_too_many is_spent lacks_space need named new_uuid forked free
+unfolding refusal is_unknown is_taken is_in_use is_not_attached is_read_only is_raw_disk is_tracked is_out_of_range is_bad_size is_shrink is_deep is_too_many is_spent lacks_space log_need need named new_uuid forked free
 refusal_forked s (Snapshot u twin) fork = refl
 refusal_forked s (Clone u twin) fork = refl
 refusal_forked s _ fork = absurd (true≢false (sym fork))
@@ -266,13 +267,13 @@ module _ {S : Type 0} {g : Ghosts S} {u : List ℕ} {a b : S} {m k : Memory} (w 
 
   -- by this number table and memory are orderly
   pub then_orderly : IsOrderlyStore g a m → k.operation ≡ unfolded m.operation u → (k.tree ≡ m.tree) × (k.records ≡ m.records) × (k.attached ≡ m.attached)
-      → (folds m.operation u ≡ true → (e : Name) → entry_of m.operation ≡ e ∷ [] → Commits g (Remove e) a b) → IsOrderly (g.site b) (record (tab g b) { sequence = number }) (known k)
-  then_orderly o operation others gone = by (folds m.operation u) refl
+      → k.logs ≡ m.logs → (folds m.operation u ≡ true → (e : Name) → entry_of m.operation ≡ e ∷ [] → Commits g (Remove e) a b) → IsOrderly (g.site b) (record (tab g b) { sequence = number }) (known k)
+  then_orderly o operation others logs gone = by (folds m.operation u) refl
     where
       known_is : known k ≡ record (known m) { op = k.operation }
       known_is =
-          ap₂ (λ (t : Tree) (ps : List (Option Record)). let x : Known = record { rows = t.rows; places = ps; logs = []; attached = k.attached; op = k.operation } in x) others.0 others.1
-          ∙ ap (λ (y : Attached). let x : Known = record { rows = m.tree.rows; places = m.records; logs = []; attached = y; op = k.operation } in x) others.2
+          ap₂ (λ (t : Tree) (ps : List (Option Record)). let x : Known = record { rows = t.rows; places = ps; logs = k.logs; attached = k.attached; op = k.operation } in x) others.0 others.1
+          ∙ ap₂ (λ (ls : List Log) (y : Attached). let x : Known = record { rows = m.tree.rows; places = m.records; logs = ls; attached = y; op = k.operation } in x) logs others.2
 
       by : (f : Bool) → folds m.operation u ≡ f → IsOrderly (g.site b) (record (tab g b) { sequence = number }) (known k)
       by false is =

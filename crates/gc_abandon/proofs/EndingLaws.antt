@@ -31,6 +31,7 @@ use Rattle.sm_machine.specs.Commits.{folds}
 use Rattle.sm_machine.specs.Shapes.{image_uuid}
 use Rattle.sm_machine.specs.WellFormed.{IsOperation, IsWellFormed, is_image_name}
 use Rattle.sm_standing.specs.Entries.{names_in}
+use Rattle.sm_standing.specs.Logs.{IsLogged}
 use Rattle.sm_standing.specs.Standing.{disks}
 use Rattle.sm_standing.proofs.UndoneLaws.{named_found}
 use Rattle.sm_ready.specs.Does.{store_shape}
@@ -41,7 +42,7 @@ use Rattle.sm_ready.specs.Known.{Known, entry_of, known, shape_in}
 use Rattle.sm_ready.specs.Orderly.{IsOrderly, IsRoomyIn}
 use Rattle.sm_ready.specs.Ready.{IsBelow, IsReady, IsTidy}
 use Rattle.sm_ready.specs.Sessions.{IsOrderlyStore, IsTidyStore}
-use Rattle.sm_ready.specs.Stores.{Leaving, StoreLeaves, content_now, store_content}
+use Rattle.sm_ready.specs.Stores.{Leaving, StoreLeaves, content_in, content_now, store_content}
 use Rattle.sm_ready.specs.declared.memory.Memory.{Memory}
 use Rattle.sm_ready.proofs.ChainLaws.{commit_failed, commit_made, only_crash, tab}
 use Rattle.sm_ready.proofs.CommitLaws.{law_single_commit}
@@ -260,9 +261,9 @@ module _ {S : Type 0} (g : Ghosts S) (a : S) (m : Memory) {x : Op} {change : Cha
         subst (λ z. HasDone (g.site a) (tab g a) (tab g b) (g.area a) (g.area b) (known z) (StoreLeaves g a) (StoreLeaves g b) ok (disks (store_content g a))) (sym is) (done_end k stop ok)
 
   -- the commit failed
-  pub failed_end : IsTold g a m → {b : S} (n : Memory) (ok : Type 0) → (ok → ⊥) → FailsToCommit g a b
+  pub failed_end : IsTold g a m → {b : S} (n : Memory) (ok : Type 0) → (ok → ⊥) → n.logs ≡ m.logs → FailsToCommit g a b
       → ((v : VolumeTable) (image : ℕ → List ℕ) → g.leaves b v image → IsEitherOf (stored g a) change v image)
       → HasDone (g.site a) (tab g a) (tab g b) (g.area a) (g.area b) (known n) (StoreLeaves g a) (StoreLeaves g b) ok (disks (store_content g a))
-  failed_end k {b} n ok never fails stop =
+  failed_end k {b} n ok never same_logs fails stop =
       let done = done_next h (g.area a) (g.area b) (StoreLeaves g a) (StoreLeaves g b) ok k.ready (λ image at. inr (k.told, k.usable, at)) (commit_failed g change ok never refl refl k.told fails stop) in
-      only_crash never done.crash done.logged
+      only_crash never done.crash (λ v image l. subst (IsLogged (content_in (g.site a) v image)) (sym same_logs) (done.logged v image l))

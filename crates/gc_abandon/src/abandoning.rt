@@ -86,6 +86,7 @@ fn abandon_leaf<S: Store>(store: &mut S, memory: &mut Memory) -> Result<(), Fail
     ensures keeps { S.told → Keeps (S.area store.old) (S.area store.new) }
     ensures operation { OnOk result (memory.new.operation ≡ Idle) }
     ensures others { (memory.new.tree ≡ memory.old.tree) × (memory.new.records ≡ memory.old.records) × (memory.new.attached ≡ memory.old.attached) }
+    ensures logs { memory.new.logs ≡ memory.old.logs }
     ensures commits { OnOk result ((e : NameModel) → entry_of memory.old.operation ≡ e ∷ [] → Commits S.Store (Remove e) store.old store.new) }
     ensures shape { OnOk result (store_shape S.Store store.new memory.new ≡ abandoned (store_shape S.Store store.old memory.old)) }
     ensures done { S.told → IsReadyStore S.Store store.old memory.old
@@ -125,6 +126,7 @@ pub fn give_up<S: Store>(store: &mut S, memory: &mut Memory, disk: &Uuid) -> Res
     ensures keeps { S.told → Keeps (S.area store.old) (S.area store.new) }
     ensures operation { OnOk result (memory.new.operation ≡ unfolded memory.old.operation disk.now) }
     ensures others { (memory.new.tree ≡ memory.old.tree) × (memory.new.records ≡ memory.old.records) × (memory.new.attached ≡ memory.old.attached) }
+    ensures logs { memory.new.logs ≡ memory.old.logs }
     ensures none { folds memory.old.operation disk.now ≡ false → (result ≡ Ok tt) × (store.new ≡ store.old) × (memory.new ≡ memory.old) }
     ensures commits { OnOk result (folds memory.old.operation disk.now ≡ true
         → (e : NameModel) → entry_of memory.old.operation ≡ e ∷ [] → Commits S.Store (Remove e) store.old store.new) }

@@ -1,7 +1,8 @@
 -- What holds of a store and of memory once a fork is made that may be made: table and memory are orderly and tidy, the images are
 -- those of the fork and true, and the shape is the machine's.
-use Rattle.std.proofs.Common.{◌≡◌, ℕ, ◌+◌, List, [], length, set, slice_set, unwrap_or, Option, Some, None, IsSome, refl, sym, ap, ap₂, ◌∙◌, subst, subst₂, arith}
+use Rattle.std.proofs.Common.{◌≡◌, ℕ, ◌+◌, List, length, set, slice_set, unwrap_or, Option, Some, None, IsSome, refl, sym, ap, ap₂, ◌∙◌, subst, subst₂, arith}
 use Rattle.std.proofs.lemmas.Option.{same_Some}
+use Rattle.sm_log.specs.Logs.{Log}
 use Rattle.sm_machine.specs.Operations.{Op}
 use Rattle.vg_meta.specs.Tables.{VolumeTable}
 use Rattle.vg_volumes.specs.Sites.{Site}
@@ -37,6 +38,7 @@ use Rattle.sm_clone.proofs.TableLaws.{stage_8}
 pub record IsForkedMemory (s : Site) (t : VolumeTable) (m n : Memory) (f : Fork) (own twins : ℕ) (entry : Record) (now : ℕ) : Type 0 where
   pub rows : n.tree.rows ≡ forked_rows s t f now own twins (tree_row m.tree.rows f.own) m.tree.rows
   pub records : n.records ≡ slice_set m.records (unwrap_or (place_for m.records entry.uuid) 0) (Some entry)
+  pub logs : n.logs ≡ m.logs
   pub uses : IsUsedAs f m.attached n.attached
   pub others : n.operation ≡ m.operation
 
@@ -92,9 +94,9 @@ module _ {S : Type 0} {g : Ghosts S} {a : S} {m : Memory} {f : Fork} {p : Parts}
 
     pub known_is : known n ≡ memory_then
     known_is =
-        ap₂ (λ (rs : List TreeRow) (ps : List (Option Record)). let x : Known = record { rows = rs; places = ps; logs = []; attached = n.attached; op = n.operation } in x) there.rows
+        ap₂ (λ (rs : List TreeRow) (ps : List (Option Record)). let x : Known = record { rows = rs; places = ps; logs = n.logs; attached = n.attached; op = n.operation } in x) there.rows
         (there.records ∙ ap (λ (r : Record). set m.records k (Some r)) can.entry_is)
-        ∙ ap (λ (o : Op). let x : Known = record memory_then { op = o } in x) there.others
+        ∙ ap₂ (λ (ls : List Log) (o : Op). let x : Known = record memory_then { logs = ls; op = o } in x) there.logs there.others
 
     number : after.sequence ≡ t.sequence + 8
     number = (stage_8 s t (known m) f.disk f.twin entry.read_only can.session.orderly can.session.tidy can.allowed (sectors_of (tree_row m.tree.rows by_number.own)) own twins taken (twin_uuid can)).number

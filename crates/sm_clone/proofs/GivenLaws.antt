@@ -102,7 +102,7 @@ module _ {S : Type 0} {g : Ghosts S} {u : List ℕ} {a b : S} {m k : Memory} (w 
 
   -- ---- the fork may be made
 
-  module _ (o : IsOrderlyStore g a m) (room : KeepsRoom g a b) (operation : k.operation ≡ unfolded m.operation u) (others : (k.tree ≡ m.tree) × (k.records ≡ m.records) × (k.attached ≡ m.attached))
+  module _ (o : IsOrderlyStore g a m) (room : KeepsRoom g a b) (operation : k.operation ≡ unfolded m.operation u) (others : (k.tree ≡ m.tree) × (k.records ≡ m.records) × (k.attached ≡ m.attached)) (logs : k.logs ≡ m.logs)
       (gone : folds m.operation u ≡ true → (e : Name) → entry_of m.operation ≡ e ∷ [] → Commits g (Remove e) a b) where
     pub can_given : (twin : List ℕ) (read_only : Bool) (origin entry : Record) (f : Fork) (p : Parts) → IsAllowed g (forking u twin read_only) a m
         → record_in m.records u ≡ Some origin → IsRecord entry → entry ≡ twin_record u twin read_only origin → f ≡ fork_of (tab g a).sequence m.tree.rows u twin → IsSome (place_for m.records twin)
@@ -112,7 +112,7 @@ module _ {S : Type 0} {g : Ghosts S} {u : List ℕ} {a b : S} {m k : Memory} (w 
     can_given twin read_only origin entry f p allowed recorded proper entry_is fork place extents own_map twin_map spare =
         subst₂ (λ (x : Fork) (y : Record). CanFork g b k x p y) (sym fork) (sym entry_is) (record {
           session = w.session;
-          allowed = passes_given twin read_only allowed (then_orderly w o operation others gone) (then_number w o gone);
+          allowed = passes_given twin read_only allowed (then_orderly w o operation others logs gone) (then_number w o gone);
           kept_up = then_kept w (forking u twin read_only) (gives_disk u twin read_only);
           fork = ap (λ (x : Tree). fork_of (tab g a).sequence x.rows u twin) (sym others.0);
           origin = origin;

@@ -14,7 +14,7 @@ use Rattle.sm_machine.specs.Commits.{own_commits}
 use Rattle.sm_machine.specs.Refusals.{fork_need, images_needed, is_bad_size, is_unknown, named, need, new_uuid, of_some, refusal, wanted, with_image_of}
 use Rattle.sm_machine.specs.Shapes.{Shape, attached_as, disk_image, disk_record, is_rw, thin_in}
 use Rattle.sm_machine.specs.Steps.{fork_shape, shape_after}
-use Rattle.sm_machine.specs.declared.commands.Command.TheVariants.{Snapshot}
+use Rattle.sm_machine.specs.declared.commands.Command.TheVariants.{Clone}
 use Rattle.sm_ready.specs.Known.{Known, shape_in}
 use Rattle.sm_ready.specs.Orderly.{IsOrderly}
 use Rattle.sm_ready.specs.Ready.{IsTidy}
@@ -44,12 +44,17 @@ unfolding images_needed
 makes_two u twin true = refl
 makes_two u twin false = refl
 
-need_any : (σ : Shape) (u twin : List ℕ) (b : Bool) → need σ (forking u twin b) ≡ with_image_of (fork_need σ u) (disk_image u σ)
+-- a clone takes the extents of the two images; a snapshot takes those of its log too
+need_clone : (σ : Shape) (u twin : List ℕ) → need σ (Clone u twin) ≡ with_image_of (fork_need σ u) (disk_image u σ)
 unfolding need
-need_any σ u twin true = refl
-need_any σ u twin false = refl
+need_clone σ u twin = refl
 
-good_size : (σ : Shape) (u twin : List ℕ) → is_bad_size σ (Snapshot u twin) ≡ false
+need_least : (σ : Shape) (u twin : List ℕ) (b : Bool) → need σ (Clone u twin) ≤ need σ (forking u twin b)
+unfolding need
+need_least σ u twin true = omega arith
+need_least σ u twin false = omega arith
+
+good_size : (σ : Shape) (u twin : List ℕ) → is_bad_size σ (Clone u twin) ≡ false
 unfolding is_bad_size
 good_size σ u twin = refl
 
@@ -70,7 +75,7 @@ thin_is s t m g is = ap (λ (x : Geometry). thin x.extent x.block x.entries 0) i
 -- ---- where no cause refuses it
 
 -- a fork is given no size
-pub no_size : (σ : Shape) (u twin : List ℕ) → is_bad_size σ (Snapshot u twin) ≡ false
+pub no_size : (σ : Shape) (u twin : List ℕ) → is_bad_size σ (Clone u twin) ≡ false
 unfolding is_bad_size
 no_size σ u twin = refl
 
@@ -111,22 +116,26 @@ module _ (s : Site) (t : VolumeTable) (m : Known) (u twin : List ℕ) (read_only
       ∙ sym (ap (of_some (λ v. is_none (disk_record v (shape_in s numbered m)))) (named_is u twin read_only)) ∙ (passed (shape_in s numbered m) (forking u twin read_only) passes.unrefused).unknown)
 
   -- it takes what the disk's image wants, and what an image has without slots
-  pub need_is : need (shape_in s t m) (Snapshot u twin)
+  pub need_is : need (shape_in s t m) (Clone u twin)
       ≡ wanted (shape_in s t m) (is_rw (attached_as u (shape_in s t m))) (sectors_of (tree_row m.rows (own_name m.rows u))) + thin_in (shape_in s t m) 0
   need_is =
-      need_any (shape_in s t m) u twin true
+      need_clone (shape_in s t m) u twin
       ∙ ap (with_image_of (fork_need (shape_in s t m) u)) (own_image s t m u o own)
       ∙ ap (λ k. wanted (shape_in s t m) (is_rw (attached_as u (shape_in s t m))) k + thin_in (shape_in s t m) 0) (sym (ap sectors_of found))
 
-  pub few : need (shape_in s t m) (Snapshot u twin) < 2 ^ 32
-  few = need_few s t m (Snapshot u twin) o (good_size (shape_in s t m) u twin)
+  pub few : need (shape_in s t m) (Clone u twin) < 2 ^ 32
+  few = need_few s t m (Clone u twin) o (good_size (shape_in s t m) u twin)
 
-  pub enough : need (shape_in s t m) (Snapshot u twin) ≤ length (free_of s.count t)
+  pub enough : need (shape_in s t m) (Clone u twin) ≤ length (free_of s.count t)
   unfolding shape_in free_of
-  enough = subst (λ k. k ≤ length (free_of s.count t)) (need_any (shape_in s numbered m) u twin read_only ∙ sym (need_any (shape_in s t m) u twin true)) new.enough
+  enough =
+      let most : need (shape_in s numbered m) (forking u twin read_only) ≤ length (free_of s.count t) = new.enough in
+      let least : need (shape_in s numbered m) (Clone u twin) ≤ need (shape_in s numbered m) (forking u twin read_only) = need_least (shape_in s numbered m) u twin read_only in
+      let same : need (shape_in s numbered m) (Clone u twin) ≡ need (shape_in s t m) (Clone u twin) = need_clone (shape_in s numbered m) u twin ∙ sym (need_clone (shape_in s t m) u twin) in
+      omega (arith, most, least, same)
 
   -- the extents that were found are those of the two images
-  pub for_fork : (all more count : ℕ) (k : VolumeTable) (own_es twin_es : List ℕ) → count ≡ s.count → k ≡ t → all ≡ need (shape_in s t m) (Snapshot u twin) → more ≡ thin_in (shape_in s t m) 0
+  pub for_fork : (all more count : ℕ) (k : VolumeTable) (own_es twin_es : List ℕ) → count ≡ s.count → k ≡ t → all ≡ need (shape_in s t m) (Clone u twin) → more ≡ thin_in (shape_in s t m) 0
       → length own_es ≡ all - more → length twin_es ≡ more → AreLeastFree count (all - more + more) k (own_es ++ twin_es) → AreFree count k.volumes (own_es ++ twin_es)
       → AreForFork s t (shape_in s t m) u (sectors_of (tree_row m.rows (own_name m.rows u))) own_es twin_es
   for_fork all more count k own_es twin_es counted table is thin long longer least unused = record {

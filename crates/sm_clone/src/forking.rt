@@ -43,6 +43,7 @@ fn make_fork<S: Store>(
     ensures cause { Counts S.Store result store.old store.new }
     ensures session_still { OnOk result (IsBetweenSteps S.Store store.new memory.new) }
     ensures others { memory.new.operation ≡ memory.old.operation }
+    ensures logs { memory.new.logs ≡ memory.old.logs }
     ensures table { OnOk result (table_alone (S.table store.new) ≡ table_forked (table_alone (S.table store.old)) fork.now parts.own.items parts.twins.items) }
     ensures images { OnOk result (memory.new.tree.rows ≡ forked_rows (S.site store.old) (table_alone (S.table store.old)) fork.now now
         (length parts.own.items) (length parts.twins.items) (tree_row memory.old.tree.rows fork.now.own) memory.old.tree.rows) }
@@ -112,6 +113,7 @@ pub fn fork<S: Store>(
     ensures images { OnOk result (HasForkedRows (S.site store.old) (unfolded_table memory.old.operation disk.now (table_alone (S.table store.old))) (store_shape S.Store store.old memory.old)
         (fork_of (table_alone (S.table store.old)).sequence memory.old.tree.rows disk.now twin.now) now memory.old.tree.rows memory.new.tree.rows) }
     ensures records { OnOk result (memory.new.records ≡ forked_places disk.now twin.now read_only (record_in memory.old.records disk.now) memory.old.records) }
+    ensures logs { memory.new.logs ≡ memory.old.logs }
     ensures shape { OnOk result (ShapesAs S.Store (forking disk.now twin.now read_only) store.old memory.old store.new memory.new) }
     ensures done { S.told → IsReadyStore S.Store store.old memory.old
         → StoreDoes S.Store (forking disk.now twin.now read_only) store.old memory.old store.new memory.new (result ≡ Ok tt) }

@@ -86,7 +86,8 @@ pub fn prepare<S: Store>(
         return Err(NoMemory);
     }
     let geometry = store.geometry();
-    let command = Command::Snapshot {
+    // A clone takes the extents of the two images alone, a snapshot those of its log too.
+    let command = Command::Clone {
         disk: *disk,
         twin: *twin,
     };

@@ -1,5 +1,5 @@
 -- What is known of a store and of memory where a volume is to get more extents, and what a call does for which memory is wanting.
-use Rattle.std.proofs.Common.{◌≡◌, ℕ, ◌+◌, ◌-◌, false, List, [], length, Option, sym, ap, ap₂, ◌∙◌, subst, subst₂, inl, inr, ⊎_elim, arith}
+use Rattle.std.proofs.Common.{◌≡◌, ℕ, ◌+◌, ◌-◌, false, List, length, Option, sym, ap, ap₂, ◌∙◌, subst, subst₂, inl, inr, ⊎_elim, arith}
 use Rattle.std.proofs.lemmas.List.{length-map, length-take}
 use Rattle.sm_base.specs.declared.names.Name.{Name}
 use Rattle.sm_base.specs.declared.names.Name.TheVariants.{Vhd}
@@ -17,6 +17,7 @@ use Rattle.vhd_image.specs.declared.images.Body.TheVariants as body
 use Rattle.vhd_chain.specs.Trees.{tree_row}
 use Rattle.vhd_chain.specs.declared.rows.TreeRow.{TreeRow}
 use Rattle.sm_machine.specs.Disks.{Disk}
+use Rattle.sm_log.specs.Logs.{Log}
 use Rattle.sm_machine.specs.Operations.{Op}
 use Rattle.sm_refs.specs.Attached.{Attached}
 use Rattle.sm_record.specs.declared.records.Record.{Record}
@@ -52,11 +53,12 @@ module _ {S : Type 0} {g : Ghosts S} {a : S} {m : Memory} {u es : List ℕ} {row
   own_name = (In-tree_row m.tree.rows (Vhd u) row h.grows.found).1
 
 -- memory is that from after
-pub known_after : (m n : Memory) (u : List ℕ) (to sum : ℕ) → sum ≡ to → n.tree.rows ≡ with_extents (Vhd u) to m.tree.rows → n.records ≡ m.records → n.attached ≡ m.attached → n.operation ≡ m.operation
+pub known_after : (m n : Memory) (u : List ℕ) (to sum : ℕ) → sum ≡ to → n.tree.rows ≡ with_extents (Vhd u) to m.tree.rows → n.records ≡ m.records → n.logs ≡ m.logs → n.attached ≡ m.attached → n.operation ≡ m.operation
     → known n ≡ record (known m) { rows = with_extents (Vhd u) sum (known m).rows }
-known_after m n u to sum is rows records attached operation =
-    ap₂ (λ (rs : List TreeRow) (ps : List (Option Record)). let x : Known = record { rows = rs; places = ps; logs = []; attached = n.attached; op = n.operation } in x) (rows ∙ ap (λ k. with_extents (Vhd u) k m.tree.rows) (sym is)) records
-    ∙ ap₂ (λ (x : Attached) (o : Op). let y : Known = record { rows = with_extents (Vhd u) sum m.tree.rows; places = m.records; logs = []; attached = x; op = o } in y) attached operation
+known_after m n u to sum is rows records logs attached operation =
+    ap₂ (λ (rs : List TreeRow) (ps : List (Option Record)). let x : Known = record { rows = rs; places = ps; logs = n.logs; attached = n.attached; op = n.operation } in x) (rows ∙ ap (λ k. with_extents (Vhd u) k m.tree.rows) (sym is)) records
+    ∙ ap₂ (λ (x : Attached) (o : Op). let y : Known = record { rows = with_extents (Vhd u) sum m.tree.rows; places = m.records; logs = n.logs; attached = x; op = o } in y) attached operation
+    ∙ ap (λ (ls : List Log). let x : Known = record { rows = with_extents (Vhd u) sum m.tree.rows; places = m.records; logs = ls; attached = m.attached; op = m.operation } in x) logs
 
 -- one row has another number of extents: the tree has as many, and room for all
 pub tree_room_sized : (m n : Memory) (k : Name) (to : ℕ) → n.tree.rows ≡ with_extents k to m.tree.rows → n.tree.spare ≡ m.tree.spare → HasTreeRoom m → HasTreeRoom n

@@ -71,6 +71,7 @@ pub fn deflate<S: Store>(
     ensures cause { Counts S.Store result store.old store.new }
     ensures session_still { OnOk result (IsBetweenSteps S.Store store.new memory.new) }
     ensures others { (memory.new.records ≡ memory.old.records) × (memory.new.attached ≡ memory.old.attached) × (memory.new.operation ≡ memory.old.operation) }
+    ensures logs { memory.new.logs ≡ memory.old.logs }
     ensures shape { OnOk result (store_shape S.Store store.new memory.new ≡ deflated (Vhd disk.now) to (store_shape S.Store store.old memory.old)) }
     ensures cut { OnOk result (table_alone (S.table store.new) ≡ applied (table_alone (S.table store.old)) (Cut (Vhd disk.now) to)) }
     ensures done { S.told → IsReadyStore S.Store store.old memory.old

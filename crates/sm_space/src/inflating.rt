@@ -145,6 +145,7 @@ pub(crate) fn set_extents(memory: &mut Memory, name: &Name, to: u32)
     ensures rows { memory.new.tree.rows ≡ with_extents name.now to memory.old.tree.rows }
     ensures spare { memory.new.tree.spare ≡ memory.old.tree.spare }
     ensures others { (memory.new.records ≡ memory.old.records) × (memory.new.attached ≡ memory.old.attached) × (memory.new.operation ≡ memory.old.operation) }
+    ensures logs { memory.new.logs ≡ memory.old.logs }
 {
     let _order = memory.tree.rows();
     let Some(mut row) = memory.tree.take(name) else {
@@ -203,6 +204,7 @@ pub fn enlarge<S: Store>(
     ensures cause { Counts S.Store result store.old store.new }
     ensures session_still { OnOk result (IsBetweenSteps S.Store store.new memory.new) }
     ensures others { (memory.new.records ≡ memory.old.records) × (memory.new.attached ≡ memory.old.attached) × (memory.new.operation ≡ memory.old.operation) }
+    ensures logs { memory.new.logs ≡ memory.old.logs }
     ensures rows { OnOk result (memory.new.tree.rows ≡ with_extents (Vhd disk.now) to memory.old.tree.rows) }
     ensures spare { OnOk result (memory.new.tree.spare ≡ memory.old.tree.spare) }
     ensures shape { OnOk result (store_shape S.Store store.new memory.new ≡ inflated disk.now to (store_shape S.Store store.old memory.old)) }
@@ -246,6 +248,7 @@ pub fn inflate<S: Store>(
         → OnlyReads S.Store store.old store.new × ((t : VolumeTable) (image : ℕ → List ℕ) → S.leaves store.new t image → S.leaves store.old t image)
         × (memory.new ≡ memory.old) }
     ensures others { (memory.new.records ≡ memory.old.records) × (memory.new.attached ≡ memory.old.attached) × (memory.new.operation ≡ memory.old.operation) }
+    ensures logs { memory.new.logs ≡ memory.old.logs }
     ensures shape { OnOk result (store_shape S.Store store.new memory.new ≡ inflated disk.now to (store_shape S.Store store.old memory.old)) }
     ensures least { OnOk result (IsEnlarged (S.site store.old).count (table_alone (S.table store.old)) disk.now to (table_alone (S.table store.new))) }
     ensures done { S.told → IsReadyStore S.Store store.old memory.old

@@ -106,6 +106,7 @@ fn resize_kept<S: Store>(
     ensures cause { Counts S.Store result store.old store.new }
     ensures session_still { OnOk result (IsBetweenSteps S.Store store.new memory.new) }
     ensures others { (memory.new.records ≡ memory.old.records) × (memory.new.attached ≡ memory.old.attached) × (memory.new.operation ≡ memory.old.operation) }
+    ensures logs { memory.new.logs ≡ memory.old.logs }
     ensures tree { OnOk result (IsBesideTree memory.old memory.new) }
     ensures least { OnOk result (0 < needed (store_shape S.Store store.old memory.old) (command.Resize disk.now size)
         → IsEnlarged (S.site store.old).count (table_alone (S.table store.old)) disk.now
@@ -137,6 +138,7 @@ fn resize_given<S: Store>(
     ensures cause { Counts S.Store result store.old store.new }
     ensures session_still { OnOk result (IsBetweenSteps S.Store store.new memory.new) }
     ensures others { (memory.new.records ≡ memory.old.records) × (memory.new.attached ≡ memory.old.attached) }
+    ensures logs { memory.new.logs ≡ memory.old.logs }
     ensures tree { OnOk result (IsBesideTree (record memory.old { operation = memory.new.operation }) memory.new) }
     ensures operation { OnOk result (memory.new.operation ≡ unfolded memory.old.operation disk.now) }
     ensures least { OnOk result (0 < needed (store_shape S.Store store.old memory.old) (command.Resize disk.now size)
@@ -210,6 +212,7 @@ pub fn resize<S: Store>(
         × (memory.new ≡ memory.old) }
     ensures wants { result ≡ Err fault.NoMemory → 0 < needed (store_shape S.Store store.old memory.old) (command.Resize disk.now size) }
     ensures others { (memory.new.records ≡ memory.old.records) × (memory.new.attached ≡ memory.old.attached) }
+    ensures logs { memory.new.logs ≡ memory.old.logs }
     ensures tree { OnOk result (IsBesideTree (record memory.old { operation = memory.new.operation }) memory.new) }
     ensures operation { OnOk result (memory.new.operation ≡ unfolded memory.old.operation disk.now) }
     ensures least { OnOk result (0 < needed (store_shape S.Store store.old memory.old) (command.Resize disk.now size)

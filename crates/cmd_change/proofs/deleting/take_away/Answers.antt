@@ -28,7 +28,7 @@ returns-in_err-remove-clause-done g c = λ told ready.
     let d = to_delete _ _ (known c.args.memory.now) c.args.disk.now r.session.orderly r.session.tidy r.allowed r.kept_up in
     remove_failed
     (is_told g.S.Store c.args.store.now c.args.memory.now r.session.orderly r.session.usable told ready (g.met.S.Store.leaves_now c.args.store.now told r.session.usable)) d
-    (own_name _ _ (known c.args.memory.now) c.args.disk.now _ r.session.orderly d.own c.image_name-name.ensures) c.args.memory.now _ (λ fine. err_not_ok _ tt c.from_residual.ensures.0 fine) c.in_err-remove.ensures.fails (c.remove.ensures.crash told)
+    (own_name _ _ (known c.args.memory.now) c.args.disk.now _ r.session.orderly d.own c.image_name-name.ensures) c.args.memory.now _ (λ fine. err_not_ok _ tt c.from_residual.ensures.0 fine) refl c.in_err-remove.ensures.fails (c.remove.ensures.crash told)
 
 pub clear-requires : goal.clear-requires
 clear-requires g c =
@@ -46,11 +46,11 @@ returns-in_err-clear-clause-done g c = λ told ready.
     let r = c.requires in
     let d = to_delete _ _ (known c.args.memory.now) c.args.disk.now r.session.orderly r.session.tidy r.allowed r.kept_up in
     let w = c.clear.ensures.writes in
-    let after : Memory = record { tree = c.take.new.self; records = c.clear.new.self; attached = c.args.memory.now.attached; operation = c.args.memory.now.operation } in
+    let after : Memory = record { tree = c.take.new.self; records = c.clear.new.self; logs = c.args.memory.now.logs; attached = c.args.memory.now.attached; operation = c.args.memory.now.operation } in
     clear_failed
     (is_told g.S.Store c.args.store.now c.args.memory.now r.session.orderly r.session.usable told ready (g.met.S.Store.leaves_now c.args.store.now told r.session.usable)) d
     (own_name _ _ (known c.args.memory.now) c.args.disk.now _ r.session.orderly d.own c.image_name-name.ensures) c.in_ok-remove.ensures.commits (c.remove.ensures.crash told)
-    w (g.met.S.Store.leaves_now c.clear.new.store told (w.stays.failed ∙ c.in_ok-remove.ensures.commits.usable)) after _ (λ fine. err_not_ok _ tt c.from_residual-in_err-clear.ensures.0 fine)
+    w (g.met.S.Store.leaves_now c.clear.new.store told (w.stays.failed ∙ c.in_ok-remove.ensures.commits.usable)) after _ (λ fine. err_not_ok _ tt c.from_residual-in_err-clear.ensures.0 fine) refl
 
 pub returns-in_err-sync-clause-step : goal.returns-in_err-sync-clause-step
 returns-in_err-sync-clause-step g c =
@@ -65,12 +65,12 @@ returns-in_err-sync-clause-done g c = λ told ready.
     let d = to_delete _ _ (known c.args.memory.now) c.args.disk.now r.session.orderly r.session.tidy r.allowed r.kept_up in
     let w = c.clear.ensures.writes in
     let e = c.sync.ensures in
-    let after : Memory = record { tree = c.take.new.self; records = c.clear.new.self; attached = c.args.memory.now.attached; operation = c.args.memory.now.operation } in
+    let after : Memory = record { tree = c.take.new.self; records = c.clear.new.self; logs = c.args.memory.now.logs; attached = c.args.memory.now.attached; operation = c.args.memory.now.operation } in
     end_failed
     (is_told g.S.Store c.args.store.now c.args.memory.now r.session.orderly r.session.usable told ready (g.met.S.Store.leaves_now c.args.store.now told r.session.usable)) d
     (own_name _ _ (known c.args.memory.now) c.args.disk.now _ r.session.orderly d.own c.image_name-name.ensures) c.in_ok-remove.ensures.commits (c.remove.ensures.crash told)
     w (g.met.S.Store.leaves_now c.clear.new.store told (w.stays.failed ∙ c.in_ok-remove.ensures.commits.usable))
-    (record { site = e.site; table = e.table.0; failed = e.table.1; keeps = e.keeps told; leaves = e.leaves told }) after _ (λ fine. err_not_ok _ tt c.from_residual-in_err-sync.ensures.0 fine)
+    (record { site = e.site; table = e.table.0; failed = e.table.1; keeps = e.keeps told; leaves = e.leaves told }) after _ (λ fine. err_not_ok _ tt c.from_residual-in_err-sync.ensures.0 fine) refl
 
 pub returns-clause-step : goal.returns-clause-step
 returns-clause-step g c =
@@ -84,11 +84,11 @@ returns-clause-session_still g c =
     let r = c.requires in
     let d = to_delete _ _ (known c.args.memory.now) c.args.disk.now r.session.orderly r.session.tidy r.allowed r.kept_up in
     let name = own_name _ _ (known c.args.memory.now) c.args.disk.now _ r.session.orderly d.own c.image_name-name.ensures in
-    let after : Memory = record { tree = c.take.new.self; records = c.clear.new.self; attached = c.args.memory.now.attached; operation = c.args.memory.now.operation } in
+    let after : Memory = record { tree = c.take.new.self; records = c.clear.new.self; logs = c.args.memory.now.logs; attached = c.args.memory.now.attached; operation = c.args.memory.now.operation } in
     let e = c.sync.ensures in
     let commits = c.in_ok-remove.ensures.commits in
     let s = stays_then c.clear.ensures.writes.stays (stays_from {g = g.S.Store} e.site e.table e.no_less e.counts e.beside) in
-    let after_is = known_ended c.args.memory.now after _ _ _ name c.take.ensures.rows c.in_ok-clear.ensures.places refl refl in
+    let after_is = known_ended c.args.memory.now after _ _ _ name c.take.ensures.rows c.in_ok-clear.ensures.places refl refl refl in
     record {
       usable = s.failed ∙ commits.usable;
       orderly = orderly_end g.S.Store c.args.store.now c.args.memory.now d name (s.site ∙ commits.site) (s.table ∙ commits.table) after after_is;
@@ -105,10 +105,10 @@ returns-clause-shape g c =
     let r = c.requires in
     let d = to_delete _ _ (known c.args.memory.now) c.args.disk.now r.session.orderly r.session.tidy r.allowed r.kept_up in
     let name = own_name _ _ (known c.args.memory.now) c.args.disk.now _ r.session.orderly d.own c.image_name-name.ensures in
-    let after : Memory = record { tree = c.take.new.self; records = c.clear.new.self; attached = c.args.memory.now.attached; operation = c.args.memory.now.operation } in
+    let after : Memory = record { tree = c.take.new.self; records = c.clear.new.self; logs = c.args.memory.now.logs; attached = c.args.memory.now.attached; operation = c.args.memory.now.operation } in
     shape_end g.S.Store c.args.store.now c.args.memory.now d name
     (c.sync.ensures.site ∙ c.clear.ensures.writes.stays.site ∙ c.in_ok-remove.ensures.commits.site) (c.sync.ensures.table.0 ∙ c.clear.ensures.writes.stays.table ∙ c.in_ok-remove.ensures.commits.table)
-    after (known_ended c.args.memory.now after _ _ _ name c.take.ensures.rows c.in_ok-clear.ensures.places refl refl)
+    after (known_ended c.args.memory.now after _ _ _ name c.take.ensures.rows c.in_ok-clear.ensures.places refl refl refl)
 
 pub returns-clause-done : goal.returns-clause-done
 returns-clause-done g c = λ told ready.
@@ -117,10 +117,10 @@ returns-clause-done g c = λ told ready.
     let name = own_name _ _ (known c.args.memory.now) c.args.disk.now _ r.session.orderly d.own c.image_name-name.ensures in
     let w = c.clear.ensures.writes in
     let e = c.sync.ensures in
-    let after : Memory = record { tree = c.take.new.self; records = c.clear.new.self; attached = c.args.memory.now.attached; operation = c.args.memory.now.operation } in
+    let after : Memory = record { tree = c.take.new.self; records = c.clear.new.self; logs = c.args.memory.now.logs; attached = c.args.memory.now.attached; operation = c.args.memory.now.operation } in
     end_done
     (is_told g.S.Store c.args.store.now c.args.memory.now r.session.orderly r.session.usable told ready (g.met.S.Store.leaves_now c.args.store.now told r.session.usable)) d
     name c.in_ok-remove.ensures.commits (c.remove.ensures.crash told)
     w (g.met.S.Store.leaves_now c.clear.new.store told (w.stays.failed ∙ c.in_ok-remove.ensures.commits.usable))
     (record { site = e.site; table = e.table.0; failed = e.table.1; keeps = e.keeps told; leaves = e.leaves told }) (c.in_ok-sync.ensures.settled told) c.in_ok-clear.ensures.wrote
-    after _ (known_ended c.args.memory.now after _ _ _ name c.take.ensures.rows c.in_ok-clear.ensures.places refl refl)
+    after _ (known_ended c.args.memory.now after _ _ _ name c.take.ensures.rows c.in_ok-clear.ensures.places refl refl refl)

@@ -62,7 +62,7 @@ returns-in_err-fill_disk-clause-done g c = λ told ready.
     let m = c.in_ok-begin.ensures.commits in
     let stays = c.fill_disk.ensures.stays in
     fill_failed (makes g.S.Store c.args.store.now c.args.memory.now c.args.entry c.args.extents.items r.session.orderly r.session.tidy r.disk r.proper r.plain r.place r.session.usable) told ready m (c.begin.ensures.crash told) stays (c.fill_disk.ensures.middle told) _ _ _
-    (λ fine. err_not_ok _ tt c.from_residual-in_err-fill_disk.ensures.0 fine) refl (g.met.S.Store.leaves_now c.fill_disk.new.store told (stays.failed ∙ m.usable))
+    (λ fine. err_not_ok _ tt c.from_residual-in_err-fill_disk.ensures.0 fine) c.fill_disk.ensures.logs (g.met.S.Store.leaves_now c.fill_disk.new.store told (stays.failed ∙ m.usable))
 
 pub end-requires : goal.end-requires
 end-requires g c = let r = c.requires in can_end (makes g.S.Store c.args.store.now c.args.memory.now c.args.entry c.args.extents.items r.session.orderly r.session.tidy r.disk r.proper r.plain r.place r.session.usable) c.in_ok-begin.ensures.commits c.fill_disk.ensures.stays
@@ -73,7 +73,7 @@ returns-in_err-end-clause-done g c = λ told ready.
     let b = makes g.S.Store c.args.store.now c.args.memory.now c.args.entry c.args.extents.items r.session.orderly r.session.tidy r.disk r.proper r.plain r.place r.session.usable in
     let filled = c.in_ok-fill_disk.ensures.filled told in
     end_failed b told ready c.in_ok-begin.ensures.commits (c.begin.ensures.crash told) c.fill_disk.ensures.stays (c.fill_disk.ensures.middle told) _ (Keeps-none _) filled.records refl _ (disk_is b r.plain c.in_ok-begin.ensures.commits filled)
-    _ _ (λ fine. err_not_ok _ tt c.from_residual-in_err-end.ensures.0 fine) refl c.in_err-end.ensures.fails (c.end.ensures.crash told)
+    _ _ (λ fine. err_not_ok _ tt c.from_residual-in_err-end.ensures.0 fine) c.fill_disk.ensures.logs c.in_err-end.ensures.fails (c.end.ensures.crash told)
 
 pub add_image-requires-clause-room : goal.add_image-requires-clause-room
 add_image-requires-clause-room g c =
@@ -98,7 +98,7 @@ memory_is g c =
     let y = c.add_image.ensures.others in
     let count : c.len-count.result ≡ length c.args.extents.items = omega (arith, c.len-count.ensures, c.args.extents.ok.0) in
     let wide = ap₂ (λ n m. n * m) (c.from.ensures ∙ count) (c.from-2.ensures ∙ ap (λ (h : Geometry). h.extent) c.geometry.ensures) in
-    known_made c.args.memory.now c.fill_disk.new.memory c.add_image.new.memory _ _ _ x.0 x.1 x.2 c.in_ok-fill_disk.ensures.kept (c.add_image.ensures.rows ∙ ap₂ (λ n m. with_row (raw_row c.args.entry.uuid n m) c.fill_disk.new.memory.tree.rows) count wide) y.0 y.1 y.2
+    known_made c.args.memory.now c.fill_disk.new.memory c.add_image.new.memory _ _ _ x.0 c.fill_disk.ensures.logs x.1 x.2 c.in_ok-fill_disk.ensures.kept (c.add_image.ensures.rows ∙ ap₂ (λ n m. with_row (raw_row c.args.entry.uuid n m) c.fill_disk.new.memory.tree.rows) count wide) y.0 c.add_image.ensures.logs y.1 y.2
 
 pub returns-clause-shape : goal.returns-clause-shape
 returns-clause-shape g c = λ σ disk same.

@@ -52,7 +52,7 @@ returns-in_err-image-clause-done g c = λ told ready.
     let begun = c.in_ok-begin.ensures.commits in
     let stays = c.write_disk.ensures.stays in
     fill_failed (makes_vhd c.requires.session c.requires.can c.args.now) told ready begun (c.begin.ensures.crash told) stays (c.write_disk.ensures.middle told) _ _ _
-    (λ fine. err_not_ok _ tt c.from_residual-in_err-image.ensures.0 fine) refl (g.met.S.Store.leaves_now c.write_disk.new.store told (stays.failed ∙ begun.usable))
+    (λ fine. err_not_ok _ tt c.from_residual-in_err-image.ensures.0 fine) c.write_disk.ensures.logs (g.met.S.Store.leaves_now c.write_disk.new.store told (stays.failed ∙ begun.usable))
 
 -- ---- once the image is written
 
@@ -66,7 +66,7 @@ returns-in_err-end-clause-done g c = λ told ready.
     let wrote = c.in_ok-image.ensures.written told in
     end_failed (makes_vhd c.requires.session can c.args.now) told ready begun (c.begin.ensures.crash told) c.write_disk.ensures.stays (c.write_disk.ensures.middle told) wrote.between wrote.kept wrote.records
     (steady_vhd c.requires.session can c.args.now begun c.write_disk.new.store wrote) _ (vhd_disk_is c.requires.session can c.args.now begun c.write_disk.new.store wrote)
-    _ _ (λ fine. err_not_ok _ tt c.from_residual-in_err-end.ensures.0 fine) refl c.in_err-end.ensures.fails (c.end.ensures.crash told)
+    _ _ (λ fine. err_not_ok _ tt c.from_residual-in_err-end.ensures.0 fine) c.write_disk.ensures.logs c.in_err-end.ensures.fails (c.end.ensures.crash told)
 
 pub add-requires-clause-name : goal.add-requires-clause-name
 unfolding IsName
@@ -92,12 +92,12 @@ row_added g c =
 
 -- what is in memory then
 abbrev last : (g : Over) (c : goal.After-add g) → Memory
-last g c = record { tree = c.add.new.self; records = c.write_disk.new.memory.records; attached = c.write_disk.new.memory.attached; operation = c.write_disk.new.memory.operation }
+last g c = record { tree = c.add.new.self; records = c.write_disk.new.memory.records; logs = c.write_disk.new.memory.logs; attached = c.write_disk.new.memory.attached; operation = c.write_disk.new.memory.operation }
 
 memory_is : (g : Over) (c : goal.After-add g) → known (last g c) ≡ made_memory (added c.requires.session c.requires.can c.args.now) (place_of c.args.memory.now c.args.entry) c.args.entry (known c.args.memory.now)
 memory_is g c =
     let x = c.write_disk.ensures.others in
-    known_made c.args.memory.now c.write_disk.new.memory (last g c) (added c.requires.session c.requires.can c.args.now) (place_of c.args.memory.now c.args.entry) c.args.entry x.0 x.1 x.2 c.in_ok-image.ensures.kept (row_added g c) refl refl refl
+    known_made c.args.memory.now c.write_disk.new.memory (last g c) (added c.requires.session c.requires.can c.args.now) (place_of c.args.memory.now c.args.entry) c.args.entry x.0 c.write_disk.ensures.logs x.1 x.2 c.in_ok-image.ensures.kept (row_added g c) refl refl refl refl
 
 pub returns-clause-image : goal.returns-clause-image
 returns-clause-image g c =

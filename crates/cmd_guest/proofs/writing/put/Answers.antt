@@ -84,7 +84,7 @@ add-requires-clause-absent g c =
 
 -- memory behind it
 abbrev after : (g : Over) (c : goal.After-add g) → Memory
-after g c = record { tree = c.add.new.self; records = c.args.memory.now.records; attached = c.args.memory.now.attached; operation = c.mark.new.operation }
+after g c = record { tree = c.add.new.self; records = c.args.memory.now.records; logs = c.args.memory.now.logs; attached = c.args.memory.now.attached; operation = c.mark.new.operation }
 
 -- the blocks that the write reaches are marked
 marked : (g : Over) (c : goal.After-add g) → c.mark.new.operation ≡ written_op c.args.disk.now (blocks_touched (shape_in (g.S.Store.site c.args.store.now) (table_alone (g.S.Store.table c.args.store.now)) (known c.args.memory.now)) c.args.sector (length c.args.from.now / 512)) c.args.memory.now.operation
@@ -104,6 +104,7 @@ returns-clause-beside_tree g c = record {
   images = ap (λ (k : Known). length k.rows) (memory_is g c) ∙ length-map c.args.memory.now.tree.rows _;
   spare = spared (c.take.ensures.some) c.in-Some.is c.add.ensures.spare;
   records = refl;
+  logs = refl;
   attached = refl;
   operation = refl;
 }

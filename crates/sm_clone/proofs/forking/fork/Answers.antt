@@ -89,7 +89,7 @@ make_fork-requires g c =
     let orderly = (reads_between c.args.memory.now reads r.session).orderly in
     let blank = ap (λ (s : Site). replicate s.geometry.entries None) (sym reads.stays.site) in
     record {
-      can = can_given w orderly (keeps_room g.S.Store c.prepare.new.store c.give_up.new.store c.args.memory.now c.args.disk.now orderly (λ no. (v.none no).1) v.commits) v.operation v.others v.commits
+      can = can_given w orderly (keeps_room g.S.Store c.prepare.new.store c.give_up.new.store c.args.memory.now c.args.disk.now orderly (λ no. (v.none no).1) v.commits) v.operation v.others v.logs v.commits
           c.args.twin.now c.args.read_only _ _ _ c.in-Ok.parts
           (as_read reads (λ s t. refusal (shape_in s t (known c.args.memory.now)) (forking c.args.disk.now c.args.twin.now c.args.read_only) ≡ None) r.allowed)
           (sym c.find.ensures.found ∙ ap option_copied c.in-Some.is) c.twin_record-entry.ensures.proper c.twin_record-entry.ensures.is

@@ -121,7 +121,7 @@ note_uses-requires g c = record { room = use_room c.requires.can c.requires.can.
 
 -- what is in memory then
 abbrev last : (g : Over) (c : goal.After-note_uses g) → Memory
-last g c = record { tree = c.add_rows.new.tree; records = c.fill.new.records; attached = c.note_uses.new.attached; operation = c.args.memory.now.operation }
+last g c = record { tree = c.add_rows.new.tree; records = c.fill.new.records; logs = c.args.memory.now.logs; attached = c.note_uses.new.attached; operation = c.args.memory.now.operation }
 
 rows_are : (g : Over) (c : goal.After-note_uses g) → c.add_rows.new.tree.rows ≡ forked_rows (g.S.Store.site c.args.store.now) (table_alone (g.S.Store.table c.args.store.now)) c.args.fork.now c.args.now
     (length c.args.parts.own.items) (length c.args.parts.twins.items) (tree_row c.args.memory.now.tree.rows c.args.fork.now.own) c.args.memory.now.tree.rows
@@ -135,7 +135,7 @@ rows_are g c =
 
 memory_is : (g : Over) (c : goal.After-note_uses g) → IsForkedMemory (g.S.Store.site c.args.store.now) (table_alone (g.S.Store.table c.args.store.now)) c.args.memory.now (last g c) c.args.fork.now
     (length c.args.parts.own.items) (length c.args.parts.twins.items) c.args.entry c.args.now
-memory_is g c = record { rows = rows_are g c; records = c.in_ok-own.ensures.kept; uses = c.note_uses.ensures.uses; others = refl }
+memory_is g c = record { rows = rows_are g c; records = c.in_ok-own.ensures.kept; logs = refl; uses = c.note_uses.ensures.uses; others = refl }
 
 run : (g : Over) (c : goal.After-note_uses g) → DoesRun g.S.Store (fork_calls (g.S.Store.site c.args.store.now) (table_alone (g.S.Store.table c.args.store.now)) c.args.fork.now c.args.parts.own.items
     c.args.parts.twins.items c.args.now c.make_base.new.row.image (unwrap_or (place_for c.args.memory.now.records c.args.entry.uuid) 0) c.args.entry) c.args.store.now c.end.new.store (Unit {0})

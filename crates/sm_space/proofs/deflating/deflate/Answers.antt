@@ -39,7 +39,7 @@ returns-clause-session_still g c =
     let r = c.requires in
     let h = (cuts_in g.S.Store c.args.store.now c.args.memory.now c.args.disk.now c.args.to r.session.orderly r.session.tidy r.session.usable r.there).1 in
     let o = c.set_extents.ensures.others in
-    let is = known_after c.args.memory.now c.set_extents.new.memory c.args.disk.now c.args.to c.args.to refl c.set_extents.ensures.rows o.0 o.1 o.2 in
+    let is = known_after c.args.memory.now c.set_extents.new.memory c.args.disk.now c.args.to c.args.to refl c.set_extents.ensures.rows o.0 c.set_extents.ensures.logs o.1 o.2 in
     session_end h c.in_ok-run_cut.ensures.run tt c.set_extents.new.memory r.session c.set_extents.ensures.rows c.set_extents.ensures.spare o.1 is
 
 pub returns-clause-shape : goal.returns-clause-shape
@@ -47,7 +47,7 @@ returns-clause-shape g c =
     let r = c.requires in
     let h = (cuts_in g.S.Store c.args.store.now c.args.memory.now c.args.disk.now c.args.to r.session.orderly r.session.tidy r.session.usable r.there).1 in
     let o = c.set_extents.ensures.others in
-    let is = known_after c.args.memory.now c.set_extents.new.memory c.args.disk.now c.args.to c.args.to refl c.set_extents.ensures.rows o.0 o.1 o.2 in
+    let is = known_after c.args.memory.now c.set_extents.new.memory c.args.disk.now c.args.to c.args.to refl c.set_extents.ensures.rows o.0 c.set_extents.ensures.logs o.1 o.2 in
     shape_end h c.in_ok-run_cut.ensures.run tt c.set_extents.new.memory is
 
 pub returns-clause-done : goal.returns-clause-done
@@ -55,5 +55,5 @@ returns-clause-done g c =
     let r = c.requires in
     let h = (cuts_in g.S.Store c.args.store.now c.args.memory.now c.args.disk.now c.args.to r.session.orderly r.session.tidy r.session.usable r.there).1 in
     let o = c.set_extents.ensures.others in
-    let is = known_after c.args.memory.now c.set_extents.new.memory c.args.disk.now c.args.to c.args.to refl c.set_extents.ensures.rows o.0 o.1 o.2 in
-    λ told ready. done h told ready _ refl c.in_ok-run_cut.ensures.run (λ fine. (tt, is))
+    let is = known_after c.args.memory.now c.set_extents.new.memory c.args.disk.now c.args.to c.args.to refl c.set_extents.ensures.rows o.0 c.set_extents.ensures.logs o.1 o.2 in
+    λ told ready. done h told ready _ c.set_extents.ensures.logs c.in_ok-run_cut.ensures.run (λ fine. (tt, is))

@@ -81,7 +81,7 @@ returns-clause-session_still g c =
     let sum = sum_is g.S.Store a m u c.args.to c.args.growth r.session.orderly r.session.tidy r.session.usable r.there r.growth in
     let run = run_is (Inflate u) (Vhd u) m.tree.rows c.args.to (c.extents_of.ensures ∙ ap extents_in r.there.there) r.growth.is c.in_ok-run_growth.ensures.run in
     let o = c.set_extents.ensures.others in
-    let is = known_after m c.set_extents.new.memory u c.args.to (r.there.row.extents + length r.growth.extents) sum c.set_extents.ensures.rows o.0 o.1 o.2 in
+    let is = known_after m c.set_extents.new.memory u c.args.to (r.there.row.extents + length r.growth.extents) sum c.set_extents.ensures.rows o.0 c.set_extents.ensures.logs o.1 o.2 in
     session_end h c.args.to sum run tt c.set_extents.new.memory r.session c.set_extents.ensures.rows c.set_extents.ensures.spare o.1 is
 
 pub returns-clause-shape : goal.returns-clause-shape
@@ -94,7 +94,7 @@ returns-clause-shape g c =
     let sum = sum_is g.S.Store a m u c.args.to c.args.growth r.session.orderly r.session.tidy r.session.usable r.there r.growth in
     let run = run_is (Inflate u) (Vhd u) m.tree.rows c.args.to (c.extents_of.ensures ∙ ap extents_in r.there.there) r.growth.is c.in_ok-run_growth.ensures.run in
     let o = c.set_extents.ensures.others in
-    let is = known_after m c.set_extents.new.memory u c.args.to (r.there.row.extents + length r.growth.extents) sum c.set_extents.ensures.rows o.0 o.1 o.2 in
+    let is = known_after m c.set_extents.new.memory u c.args.to (r.there.row.extents + length r.growth.extents) sum c.set_extents.ensures.rows o.0 c.set_extents.ensures.logs o.1 o.2 in
     shape_end h c.args.to sum run tt c.set_extents.new.memory is
 
 pub returns-clause-least : goal.returns-clause-least
@@ -118,8 +118,8 @@ returns-clause-done g c =
     let sum = sum_is g.S.Store a m u c.args.to c.args.growth r.session.orderly r.session.tidy r.session.usable r.there r.growth in
     let run = run_is (Inflate u) (Vhd u) m.tree.rows c.args.to (c.extents_of.ensures ∙ ap extents_in r.there.there) r.growth.is c.in_ok-run_growth.ensures.run in
     let o = c.set_extents.ensures.others in
-    let is = known_after m c.set_extents.new.memory u c.args.to (r.there.row.extents + length r.growth.extents) sum c.set_extents.ensures.rows o.0 o.1 o.2 in
-    λ told ready. done h c.args.to sum told ready _ refl run (λ fine. (tt, is))
+    let is = known_after m c.set_extents.new.memory u c.args.to (r.there.row.extents + length r.growth.extents) sum c.set_extents.ensures.rows o.0 c.set_extents.ensures.logs o.1 o.2 in
+    λ told ready. done h c.args.to sum told ready _ c.set_extents.ensures.logs run (λ fine. (tt, is))
 
 pub returns-clause-still : goal.returns-clause-still
 returns-clause-still g c =

@@ -67,7 +67,7 @@ returns-in_err-sized-clause-others g c = beside_resized c.args.memory.now _ (wit
     (same_name c.set_size-sized.result c.rounded-sectors.result c.in-Some.row.image c.set_size-sized.new.self c.set_size-sized.ensures.new_size c.set_size-sized.ensures.unchanged)
     (named_here _ _ (known c.args.memory.now) c.args.disk.now c.args.size _ _ c.requires.session.orderly c.requires.allowed c.image_name-name.ensures c.take.ensures.taken c.in-Some.row c.in-Some.is)
     c.take.ensures.rows c.add.ensures.rows
-    ) (spared c.take.ensures.some c.in-Some.is c.add.ensures.spare) refl refl refl
+    ) (spared c.take.ensures.some c.in-Some.is c.add.ensures.spare) refl refl refl refl
 
 pub returns-in_err-sized-clause-done : goal.returns-in_err-sized-clause-done
 returns-in_err-sized-clause-done g c = λ told ready.
@@ -89,7 +89,7 @@ returns-in_err-sync-clause-others g c = beside_resized c.args.memory.now _ (with
     (same_name c.set_size-sized.result c.rounded-sectors.result c.in-Some.row.image c.set_size-sized.new.self c.set_size-sized.ensures.new_size c.set_size-sized.ensures.unchanged)
     (named_here _ _ (known c.args.memory.now) c.args.disk.now c.args.size _ _ c.requires.session.orderly c.requires.allowed c.image_name-name.ensures c.take.ensures.taken c.in-Some.row c.in-Some.is)
     c.take.ensures.rows c.add.ensures.rows
-    ) (spared c.take.ensures.some c.in-Some.is c.add.ensures.spare) refl refl refl
+    ) (spared c.take.ensures.some c.in-Some.is c.add.ensures.spare) refl refl refl refl
 
 pub returns-in_err-sync-clause-done : goal.returns-in_err-sync-clause-done
 returns-in_err-sync-clause-done g c = λ told ready.
@@ -125,7 +125,7 @@ returns-clause-others g c = beside_resized c.args.memory.now _ (with_image c.set
     (same_name c.set_size-sized.result c.rounded-sectors.result c.in-Some.row.image c.set_size-sized.new.self c.set_size-sized.ensures.new_size c.set_size-sized.ensures.unchanged)
     (named_here _ _ (known c.args.memory.now) c.args.disk.now c.args.size _ _ c.requires.session.orderly c.requires.allowed c.image_name-name.ensures c.take.ensures.taken c.in-Some.row c.in-Some.is)
     c.take.ensures.rows c.add.ensures.rows
-    ) (spared c.take.ensures.some c.in-Some.is c.add.ensures.spare) refl refl refl
+    ) (spared c.take.ensures.some c.in-Some.is c.add.ensures.spare) refl refl refl refl
 
 pub overflow_mul-result : goal.overflow_mul-result
 overflow_mul-result g c = bytes_fit (g.S.Store.site c.args.store.now).geometry c.rounded-sectors.result (geometry_of _ _ (known c.args.memory.now) c.requires.session.orderly)
@@ -145,7 +145,7 @@ returns-clause-session_still g c =
       true_images =
           true_sized g.S.Store c.args.store.now c.set_size-sized.new.store c.args.memory.now (sectors (lasting g c)) c.in-Some.row r.orderly (lasting g c).there c.set_size-sized.ensures.works
           c.sync.new.self c.sync.ensures.site c.sync.ensures.table.0 c.sync.ensures.keeps c.set_size-sized.new.self (new_is g c) c.in_ok-sized.ensures.true_after
-          (record { tree = c.add.new.self; records = c.args.memory.now.records; attached = c.args.memory.now.attached; operation = c.args.memory.now.operation })
+          (record { tree = c.add.new.self; records = c.args.memory.now.records; logs = c.args.memory.now.logs; attached = c.args.memory.now.attached; operation = c.args.memory.now.operation })
           (ap (λ (k : Known). k.rows) (memory_is g c)) r.true_images;
       rows = rows_stays stays r.rows;
       tree_room = let room = r.tree_room in omega (arith, others.images, others.spare, room);
