@@ -5,12 +5,13 @@ use Rattle.std.proofs.lemmas.Bool.{true≢false}
 use Rattle.sm_disk.specs.Held.{Keeps, Rose}
 use Rattle.sm_disk.proofs.HeldLaws.{Keeps-none}
 use Rattle.sm_machine.specs.Disks.{Disk}
+use Rattle.sm_standing.specs.Logs.{IsLogged}
 use Rattle.sm_standing.specs.Standing.{disks}
 use Rattle.sm_ready.specs.Done.{HasDone}
 use Rattle.sm_ready.specs.Known.{known}
 use Rattle.sm_ready.specs.Framing.{IsBetweenSteps}
 use Rattle.sm_ready.specs.Sessions.{IsReadyStore}
-use Rattle.sm_ready.specs.Stores.{StoreLeaves, store_content}
+use Rattle.sm_ready.specs.Stores.{StoreLeaves, content_in, store_content}
 use Rattle.sm_ready.specs.declared.memory.Memory.{Memory}
 use Rattle.sm_ready.proofs.ChainLaws.{tab}
 use Rattle.vg_volumes.specs.declared.stores.Store.{Ghosts}
@@ -33,8 +34,8 @@ same_ends t u bytes was fault.Source = refl
 same_ends t u bytes was fault.NoMemory = refl
 
 module _ {S : Type 0} (g : Ghosts S) (u : List ℕ) (bytes : Option (List ℕ)) (m n : Memory) (a new : S) (f : ImportFault) where
-  pub ends_still : g.told → LeavesStill g m a new → HasImported g u bytes m n a new (Err f)
-  ends_still told left = record {
+  pub ends_still : n.logs ≡ m.logs → g.told → LeavesStill g m a new → HasImported g u bytes m n a new (Err f)
+  ends_still same_logs told left = record {
     ends = disks (store_content g a);
     ends_with = same_ends (target_from g a m) u bytes (disks (store_content g a)) f;
     done = record {
@@ -42,14 +43,14 @@ module _ {S : Type 0} (g : Ghosts S) (u : List ℕ) (bytes : Option (List ℕ)) 
       settled = λ ok. absurd (true≢false (sym ok));
       shown = λ ok. absurd (true≢false (sym ok));
       crash = λ v image l. let w = left told v image l in (w.0, w.1);
-      logged = λ v image l. let w = left told v image l in w.2;
+      logged = λ v image l. subst (IsLogged (content_in (g.site a) v image)) (sym same_logs) (let w = left told v image l in w.2);
     };
   }
 
   -- as the volume was removed, or was not
-  pub ends_done : (k : Memory) (ok : Type 0)
+  pub ends_done : (k : Memory) (ok : Type 0) → n.logs ≡ k.logs
       → HasDone (g.site a) (tab g a) (tab g new) (g.area a) (g.area new) (known k) (StoreLeaves g a) (StoreLeaves g new) ok (disks (store_content g a)) → HasImported g u bytes m n a new (Err f)
-  ends_done k ok done = record {
+  ends_done k ok same_logs done = record {
     ends = disks (store_content g a);
     ends_with = same_ends (target_from g a m) u bytes (disks (store_content g a)) f;
     done = record {
@@ -57,7 +58,7 @@ module _ {S : Type 0} (g : Ghosts S) (u : List ℕ) (bytes : Option (List ℕ)) 
       settled = λ ok. absurd (true≢false (sym ok));
       shown = λ ok. absurd (true≢false (sym ok));
       crash = λ v image l. done.crash v image l;
-      logged = λ v image l. done.logged v image l;
+      logged = λ v image l. subst (IsLogged (content_in (g.site a) v image)) (sym same_logs) (done.logged v image l);
     };
   }
 

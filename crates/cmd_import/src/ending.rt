@@ -72,6 +72,7 @@ fn complete_disk<S: Store>(
     ensures site { S.site store.new ≡ S.site store.old }
     ensures beside { S.told → Keeps (S.beside store.old) (S.beside store.new) }
     ensures cause { Counts S.Store result store.old store.new }
+    ensures logs { memory.new.logs ≡ memory.old.logs }
     ensures counts { S.faults store.old ≤ S.faults store.new }
     ensures few { HasCommits 1 (table_alone (S.table store.old)) (table_alone (S.table store.new)) }
     ensures extents { OnOk result (extents_of_volume (table_alone (S.table store.new)) (Vhd uuid.now) ≡ extents_of_volume (table_alone (S.table store.old)) (Vhd uuid.now)) }
@@ -111,6 +112,7 @@ pub(crate) fn end_import<S: Store>(
     ensures site { S.site result.1 ≡ S.site disk.store }
     ensures beside { S.told → Keeps (S.beside disk.store) (S.beside result.1) }
     ensures cause { Counts S.Store result.0 disk.store result.1 }
+    ensures logs { result.2.logs ≡ disk.memory.logs }
     ensures counts { S.faults disk.store ≤ S.faults result.1 }
     ensures few { HasCommits 1 (table_alone (S.table disk.store)) (table_alone (S.table result.1)) }
     ensures extents { OnOk result.0 (extents_of_volume (table_alone (S.table result.1)) (Vhd uuid.now) ≡ extents_of_volume (table_alone (S.table disk.store)) (Vhd uuid.now)) }

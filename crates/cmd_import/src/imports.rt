@@ -51,6 +51,7 @@ pub fn import<S: Store, R: Source>(
         → (result.0 ≡ Err (Refused r)) × (result.1 ≡ store) × (result.2 ≡ memory) × (source.new ≡ source.old) }
     ensures counted { EndCounts result.0 (R.faults source.old) (R.faults source.new) (S.faults store) (S.faults result.1) }
     ensures answered { IfSome (R.content source.old) (λ bytes. Answers (shape_of S.Store store memory) uuid.now bytes result.0) }
+    ensures logs { result.2.logs ≡ memory.logs }
     ensures session_still { OnOk result.0 (IsBetweenSteps S.Store result.1 result.2) }
     ensures image { IfOk result.0 (λ size. HasNewImage (S.site store) (table_alone (S.table result.1)) uuid.now now size memory result.2) }
     // No more commits were made than the disk's volume has extents, and one at the end.

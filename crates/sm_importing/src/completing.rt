@@ -37,6 +37,7 @@ fn put_record<S: Store>(store: &mut S, memory: &mut Memory, entry: Record) -> Re
     ensures cut { OnErr result (DoesRun S.Store (record_calls (S.site store.old) (table_alone (S.table store.old)) (place_of memory.old entry) entry) store.old store.new ⊥) }
     ensures cause { Counts S.Store result store.old store.new }
     ensures others { (memory.new.tree ≡ memory.old.tree) × (memory.new.attached ≡ memory.old.attached) × (memory.new.operation ≡ memory.old.operation) }
+    ensures logs { memory.new.logs ≡ memory.old.logs }
     ensures kept { OnOk result (memory.new.records ≡ slice_set memory.old.records (place_of memory.old entry) (Some entry)) }
 {
     memory.records.put(store, entry)?;

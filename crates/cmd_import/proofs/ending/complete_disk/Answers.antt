@@ -44,7 +44,7 @@ finish-requires-clause-blocks g c = λ b k has.
 pub returns-in_default-clause-ends : goal.returns-in_default-clause-ends
 returns-in_default-clause-ends g c = λ a bytes since told made.
     let sealed = since_sealed g.S.Store c.args.store.now c.finish.new.store c.args.memory.now c.args.uuid.now c.args.filling c.requires.filled c.finish.ensures.works g.met.S.Store.leaves_now since in
-    ends_still g.S.Store c.args.uuid.now bytes c.args.memory.now c.args.memory.now a c.finish.new.store Device told (λ told. sealed.so_far.left told)
+    ends_still g.S.Store c.args.uuid.now bytes c.args.memory.now c.args.memory.now a c.finish.new.store Device refl told (λ told. sealed.so_far.left told)
 
 pub complete-requires-clause-importing : goal.complete-requires-clause-importing
 complete-requires-clause-importing g c =

@@ -1,9 +1,10 @@
-use Rattle.std.proofs.Common.{◌≡◌, ap, ap₂, ◌∙◌, subst, subst₂, IfOk}
+use Rattle.std.proofs.Common.{◌≡◌, refl, ap, ap₂, ◌∙◌, subst, subst₂, IfOk}
 use Rattle.vhd_import.specs.Progress.{FaultCounts}
 use Rattle.sm_disk.proofs.HeldLaws.{Keeps-then}
 use Rattle.vg_meta.specs.Roomy.{table_alone}
 use Rattle.sm_ready.specs.Framing.{IsBetweenSteps}
 use Rattle.sm_ready.specs.Known.{known, shape_in}
+use Rattle.sm_ready.specs.declared.memory.Memory.{Memory}
 use Rattle.sm_importing.specs.Disks.{target_of}
 use Rattle.vhd_import.specs.declared.faults.ImportFault.TheVariants.{NoMemory, Refused}
 use Rattle.cmd_import.specs.Ends.{IsCut}
@@ -17,12 +18,12 @@ use Rattle.cmd_import.proofs.imports.import.Goals as goal
 
 pub returns-in-Some-clause-done : goal.returns-in-Some-clause-done
 returns-in-Some-clause-done g c = λ told ready.
-    ends_still g.S.Store c.args.uuid.now (g.R.Source.content c.args.source.now) c.args.memory c.args.memory c.args.store c.args.store (Refused c.in-Some.refusal) told
+    ends_still g.S.Store c.args.uuid.now (g.R.Source.content c.args.source.now) c.args.memory c.args.memory c.args.store c.args.store (Refused c.in-Some.refusal) refl told
     (untouched g.S.Store c.args.store c.args.memory g.met.S.Store.leaves_now c.requires.session ready)
 
 pub returns-in_default-new-clause-done : goal.returns-in_default-new-clause-done
 returns-in_default-new-clause-done g c = λ told ready.
-    ends_still g.S.Store c.args.uuid.now (g.R.Source.content c.args.source.now) c.args.memory c.args.memory c.args.store c.args.store NoMemory told
+    ends_still g.S.Store c.args.uuid.now (g.R.Source.content c.args.source.now) c.args.memory c.args.memory c.args.store c.args.store NoMemory refl told
     (untouched g.S.Store c.args.store c.args.memory g.met.S.Store.leaves_now c.requires.session ready)
 
 pub new-disk-requires-clause-may : goal.new-disk-requires-clause-may
@@ -151,3 +152,15 @@ returns-in-Ok-read_file-clause-few g c =
     let since = c.read_file.ensures.since (begin_of c.args.store c.args.memory c.args.uuid.now) (since_new g.S.Store c.args.store c.args.memory c.args.uuid.now _ _ _ _ _ d.store d.memory d.disk d.begun.0 d.begun.1) in
     let had = since.few c.in-Ok-read_file.ensures.answered.1.held.0 c.in-Ok-read_file.ensures.begun in
     few_ends g.S.Store c.args.store n.store e.result.1 c.args.uuid.now n.disk e.result.0 since.disk had e.ensures.few e.ensures.extents
+
+pub returns-in-Ok-read_file-clause-logs : goal.returns-in-Ok-read_file-clause-logs
+returns-in-Ok-read_file-clause-logs g c =
+    let d = c.new-disk.ensures in
+    let since = c.read_file.ensures.since (begin_of c.args.store c.args.memory c.args.uuid.now) (since_new g.S.Store c.args.store c.args.memory c.args.uuid.now _ _ _ _ _ d.store d.memory d.disk d.begun.0 d.begun.1) in
+    c.end_import.ensures.logs ∙ ap (λ (m : Memory). m.logs) since.memory
+
+pub returns-in-Err-clause-logs : goal.returns-in-Err-clause-logs
+returns-in-Err-clause-logs g c =
+    let d = c.new-disk.ensures in
+    let since = c.read_file.ensures.since (begin_of c.args.store c.args.memory c.args.uuid.now) (since_new g.S.Store c.args.store c.args.memory c.args.uuid.now _ _ _ _ _ d.store d.memory d.disk d.begun.0 d.begun.1) in
+    ap (λ (m : Memory). m.logs) (c.undo_import.ensures.memory ∙ since.memory)

@@ -38,7 +38,7 @@ returns-in_err-put_record-clause-completes g c = λ a made since told disk.
     let r = c.requires in
     let s = g.S.Store.site c.args.store.now in
     let t = table_alone (g.S.Store.table c.args.store.now) in
-    completes_cut r.importing r.proper r.writable r.image since made told disk r.steady _ _ (λ fine. err_not_ok _ tt c.from_residual.ensures.0 fine) refl
+    completes_cut r.importing r.proper r.writable r.image since made told disk r.steady _ _ (λ fine. err_not_ok _ tt c.from_residual.ensures.0 fine) c.put_record.ensures.logs
     (run_front (record_calls s t (place_of c.args.memory.now c.args.entry) c.args.entry) (Commit (Mark (Vhd c.args.entry.uuid) Fresh false) ∷ []) c.in_err-put_record.ensures.cut)
 
 pub returns-in_err-commit-clause-completes : goal.returns-in_err-commit-clause-completes
@@ -47,7 +47,7 @@ returns-in_err-commit-clause-completes g c = λ a made since told disk.
     let s = g.S.Store.site c.args.store.now in
     let t = table_alone (g.S.Store.table c.args.store.now) in
     let one : Unit {0} = tt in
-    completes_cut r.importing r.proper r.writable r.image since made told disk r.steady _ _ (λ fine. err_not_ok _ tt c.from_residual-in_err-commit.ensures.0 fine) refl
+    completes_cut r.importing r.proper r.writable r.image since made told disk r.steady _ _ (λ fine. err_not_ok _ tt c.from_residual-in_err-commit.ensures.0 fine) c.put_record.ensures.logs
     (run_then (record_calls s t (place_of c.args.memory.now c.args.entry) c.args.entry) (Commit (Mark (Vhd c.args.entry.uuid) Fresh false) ∷ []) one c.in_ok-put_record.ensures.run c.in_err-commit.ensures.cut)
 
 pub returns-in_err-commit-clause-step : goal.returns-in_err-commit-clause-step
@@ -70,7 +70,7 @@ returns-clause-step g c =
 
 -- what is in memory then
 abbrev last : (g : Over) (c : goal.After-add g) → Memory
-last g c = record { tree = c.add.new.self; records = c.put_record.new.memory.records; attached = c.put_record.new.memory.attached; operation = c.put_record.new.memory.operation }
+last g c = record { tree = c.add.new.self; records = c.put_record.new.memory.records; logs = c.put_record.new.memory.logs; attached = c.put_record.new.memory.attached; operation = c.put_record.new.memory.operation }
 
 row_added : (g : Over) (c : goal.After-add g) → c.add.new.self.rows
     ≡ with_row (row_of c.args.image (extents_of_volume (table_alone (g.S.Store.table c.args.store.now)) (Vhd c.args.entry.uuid))) c.put_record.new.memory.tree.rows
@@ -82,7 +82,7 @@ memory_is : (g : Over) (c : goal.After-add g) → known (last g c)
 memory_is g c =
     let x = c.put_record.ensures.others in
     known_made c.args.memory.now c.put_record.new.memory (last g c) (row_of c.args.image (extents_of_volume (table_alone (g.S.Store.table c.args.store.now)) (Vhd c.args.entry.uuid)))
-    (place_of c.args.memory.now c.args.entry) c.args.entry x.0 x.1 x.2 c.in_ok-put_record.ensures.kept (row_added g c) refl refl refl
+    (place_of c.args.memory.now c.args.entry) c.args.entry x.0 c.put_record.ensures.logs x.1 x.2 c.in_ok-put_record.ensures.kept (row_added g c) refl refl refl refl
 
 pub returns-clause-session : goal.returns-clause-session
 returns-clause-session g c =
