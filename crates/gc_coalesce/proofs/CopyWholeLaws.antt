@@ -91,8 +91,8 @@ module _ {S : Type 0} {g : Ghosts S} {a b d : S} {m : Memory} {v p : Name} {curs
 
   -- ---- the copy failed
 
-  pub failed_done : (n : Memory) (ok : Type 0) → (ok → ⊥) → g.told → IsReadyStore g a m → StoreDoes g Gc a m d n ok
-  failed_done n ok never told ready = from_before (told_a told ready) (synced_b told) (known n) ok (copy_failed g images_b new u.copies (told_b told ready) (u.settled told) (later told) (known n) refl ok never)
+  pub failed_done : (n : Memory) (ok : Type 0) → (ok → ⊥) → n.logs ≡ m.logs → g.told → IsReadyStore g a m → StoreDoes g Gc a m d n ok
+  failed_done n ok never same_logs told ready = from_before (told_a told ready) (synced_b told) (known n) ok (copy_failed g images_b new u.copies (told_b told ready) (u.settled told) (later told) (known n) same_logs ok never)
 
   pub failed_masked : g.told → IsReadyStore g a m → g.told → (w : VolumeTable) (image : ℕ → List ℕ) → g.leaves d w image → IsMasked m.operation (store_content g a) (content_in (g.site a) w image)
   failed_masked told ready again w image l = masked_by told ready w image (later told w image l)
@@ -107,9 +107,9 @@ module _ {S : Type 0} {g : Ghosts S} {a b d : S} {m : Memory} {v p : Name} {curs
     synced_masked told ready again w image l = masked_by told ready w image (synced_choice g (synced_e told) (later told) w image (inl l))
 
     -- it failed
-    pub unsynced_done : (n : Memory) (ok : Type 0) → (ok → ⊥) → g.told → IsReadyStore g a m → StoreDoes g Gc a m e n ok
-    unsynced_done n ok never told ready =
-        from_before (told_a told ready) (synced_b told) (known n) ok (sync_failed g images_b new u.copies (told_b told ready) (u.settled told) (later told) e (synced_e told) (known n) refl ok never)
+    pub unsynced_done : (n : Memory) (ok : Type 0) → (ok → ⊥) → n.logs ≡ m.logs → g.told → IsReadyStore g a m → StoreDoes g Gc a m e n ok
+    unsynced_done n ok never same_logs told ready =
+        from_before (told_a told ready) (synced_b told) (known n) ok (sync_failed g images_b new u.copies (told_b told ready) (u.settled told) (later told) e (synced_e told) (known n) same_logs ok never)
 
     -- ---- all was copied, and lasts
 

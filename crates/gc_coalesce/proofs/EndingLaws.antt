@@ -104,7 +104,7 @@ module _ {S : Type 0} (g : Ghosts S) (a : S) (m : Memory) {x : Op} {change : Cha
     unfolding disks_next
     gc_end k stop n is ok = done_as g a m h c k stop n is ok
 
-  pub gc_failed : IsTold g a m → {b : S} (n : Memory) (ok : Type 0) → (ok → ⊥) → FailsToCommit g a b
+  pub gc_failed : IsTold g a m → {b : S} (n : Memory) (ok : Type 0) → (ok → ⊥) → n.logs ≡ m.logs → FailsToCommit g a b
       → ((v : VolumeTable) (image : ℕ → List ℕ) → g.leaves b v image → IsEitherOf (stored g a) change v image) → StoreDoes g Gc a m b n ok
   unfolding disks_next
-  gc_failed k n ok never fails stop = failed_end g a m h k n ok never fails stop
+  gc_failed k n ok never same_logs fails stop = failed_end g a m h k n ok never same_logs fails stop

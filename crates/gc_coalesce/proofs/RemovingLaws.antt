@@ -22,7 +22,7 @@ use Rattle.vg_volumes.specs.declared.stores.Store.{Ghosts}
 use Rattle.vhd_chain.specs.Trees.{Tree, has_name, row_name, tree_row, without}
 use Rattle.vhd_chain.specs.declared.rows.TreeRow.{TreeRow}
 use Rattle.sm_machine.specs.Collector.{is_childless, next_step}
-use Rattle.sm_machine.specs.Refusals.{forked, is_bad_size, is_deep, is_in_use, is_not_attached, is_out_of_range, is_raw_disk, is_read_only, is_reserved, is_shrink, is_spent, is_taken, is_too_many, is_unknown, lacks_space, named, need, new_uuid, refusal}
+use Rattle.sm_machine.specs.Refusals.{forked, is_bad_size, is_deep, is_in_use, is_not_attached, is_out_of_range, is_raw_disk, is_tracked, is_read_only, is_reserved, is_shrink, is_spent, is_taken, is_too_many, is_unknown, lacks_space, named, need, new_uuid, refusal}
 use Rattle.sm_machine.specs.Shapes.{ImageRow, Shape, children, free, image_uuid, is_image_of, is_parent, same_image}
 use Rattle.sm_machine.specs.Steps.{State, accepted, disks_next, shape_next, step, unless_refused}
 use Rattle.sm_machine.specs.WellFormed.{is_image_name}
@@ -31,6 +31,7 @@ use Rattle.sm_machine.proofs.ImageNames.{same_image-refl, same_image-sound}
 use Rattle.sm_base.specs.Kinds.{is_image as is_data}
 use Rattle.std.specs.Str.{bytes_eq}
 use Rattle.common_laws.proofs.Booleans.{not_false}
+use Rattle.sm_standing.specs.Logs.{IsLogged}
 use Rattle.sm_standing.specs.Standing.{disks}
 use Rattle.sm_ready.specs.Does.{ShapesAs, StoreDoes}
 use Rattle.sm_ready.specs.Done.{HasDone, IsCommit}
@@ -41,7 +42,7 @@ use Rattle.sm_ready.specs.Known.{Known, is_shown, known, machine_row, shape_in}
 use Rattle.sm_ready.specs.Orderly.{IsOrderly}
 use Rattle.sm_ready.specs.Ready.{IsTidy}
 use Rattle.sm_ready.specs.Sessions.{HasTreeRoom, IsOrderlyStore, IsTidyStore}
-use Rattle.sm_ready.specs.Stores.{StoreLeaves, store_content}
+use Rattle.sm_ready.specs.Stores.{StoreLeaves, content_in, store_content}
 use Rattle.sm_ready.specs.declared.memory.Memory.{Memory}
 use Rattle.sm_ready.proofs.ChainLaws.{commit_failed, commit_made, only_crash, tab}
 use Rattle.sm_ready.proofs.FitLaws.{fits_orderly}
@@ -60,7 +61,7 @@ unfolding lacks_space need
 fits_always σ = le-ltb (free σ) 0 (omega arith)
 
 never_refused : (σ : Shape) → refusal σ Gc ≡ None
-unfolding refusal is_reserved is_unknown is_taken is_in_use is_not_attached is_read_only is_raw_disk is_out_of_range is_bad_size is_shrink is_deep is_too_many is_spent new_uuid named forked
+unfolding refusal is_reserved is_unknown is_taken is_in_use is_not_attached is_read_only is_raw_disk is_tracked is_out_of_range is_bad_size is_shrink is_deep is_too_many is_spent new_uuid named forked
 never_refused σ = ap (λ b. first_some (given b (NoSpace (need σ Gc) (free σ)) ∷ [])) (fits_always σ)
 
 -- ---- in memory
@@ -242,7 +243,9 @@ module _ {S : Type 0} (g : Ghosts S) (a : S) (m : Memory) {x : Name} (h : IsToRe
     }
 
   -- the commit failed
-  pub failed_end : IsTold g a m → {b : S} (n : Memory) (ok : Type 0) → (ok → ⊥) → FailsToCommit g a b
+  pub failed_end : IsTold g a m → {b : S} (n : Memory) (ok : Type 0) → (ok → ⊥) → n.logs ≡ m.logs → FailsToCommit g a b
       → ((v : VolumeTable) (image : ℕ → List ℕ) → g.leaves b v image → IsEitherOf (stored g a) (Remove x) v image) → StoreDoes g Gc a m b n ok
   unfolding disks_next
-  failed_end k {b} n ok never fails stop = let done = done_less k b ok (commit_failed g (Remove x) ok never refl refl k.told fails stop) in only_crash never done.crash done.logged
+  failed_end k {b} n ok never same_logs fails stop =
+      let done = done_less k b ok (commit_failed g (Remove x) ok never refl refl k.told fails stop) in
+      only_crash never done.crash (λ v image l. subst (IsLogged (content_in (g.site a) v image)) (sym same_logs) (done.logged v image l))

@@ -114,6 +114,7 @@ fn enter<S: Store>(
     ensures cause { Counts S.Store result store.old store.new }
     ensures operation { OnOk result (memory.new.operation ≡ copy_of kind child.now parent.now 0 []) }
     ensures others { (memory.new.records ≡ memory.old.records) × (memory.new.attached ≡ memory.old.attached) }
+    ensures logs { memory.new.logs ≡ memory.old.logs }
     ensures session_still { OnOk result (IsBetweenSteps S.Store store.new memory.new) }
     ensures extents { OnOk result (KeepsExtents (table_alone (S.table store.old)) (table_alone (S.table store.new))) }
     ensures shape { OnOk result (store_shape S.Store store.new memory.new ≡ entered kind child.now parent.now (store_shape S.Store store.old memory.old)) }
@@ -150,6 +151,7 @@ fn fold<S: Store>(
         × (memory.new ≡ memory.old) }
     ensures operation { OnOk result (memory.new.operation ≡ copy_of kind child.now parent.now 0 []) }
     ensures others { (memory.new.records ≡ memory.old.records) × (memory.new.attached ≡ memory.old.attached) }
+    ensures logs { memory.new.logs ≡ memory.old.logs }
     ensures session_still { OnOk result (IsBetweenSteps S.Store store.new memory.new) }
     ensures least { OnOk result (IsWidened (S.site store.old).count (table_alone (S.table store.old)) parent.now to (table_alone (S.table store.new))) }
     ensures shape { OnOk result (ShapesAs S.Store command.Gc store.old memory.old store.new memory.new) }
@@ -201,6 +203,7 @@ pub fn begin<S: Store>(
         × (memory.new ≡ memory.old) }
     ensures operation { OnOk result (memory.new.operation ≡ op.Copy child.now parent.now 0) }
     ensures others { (memory.new.records ≡ memory.old.records) × (memory.new.attached ≡ memory.old.attached) }
+    ensures logs { memory.new.logs ≡ memory.old.logs }
     ensures session_still { OnOk result (IsBetweenSteps S.Store store.new memory.new) }
     ensures least { OnOk result (IsWidened (S.site store.old).count (table_alone (S.table store.old)) parent.now to (table_alone (S.table store.new))) }
     ensures shape { OnOk result (ShapesAs S.Store command.Gc store.old memory.old store.new memory.new) }
@@ -233,6 +236,7 @@ pub fn begin_leaf<S: Store>(
         × (memory.new ≡ memory.old) }
     ensures operation { OnOk result (memory.new.operation ≡ op.Leaf leaf.now parent.now 0) }
     ensures others { (memory.new.records ≡ memory.old.records) × (memory.new.attached ≡ memory.old.attached) }
+    ensures logs { memory.new.logs ≡ memory.old.logs }
     ensures session_still { OnOk result (IsBetweenSteps S.Store store.new memory.new) }
     ensures least { OnOk result (IsWidened (S.site store.old).count (table_alone (S.table store.old)) parent.now to (table_alone (S.table store.new))) }
     ensures shape { OnOk result (ShapesAs S.Store command.Gc store.old memory.old store.new memory.new) }
@@ -266,6 +270,7 @@ pub fn begin_live<S: Store>(
         × (memory.new ≡ memory.old) }
     ensures operation { OnOk result (memory.new.operation ≡ op.Live leaf.now parent.now 0 []) }
     ensures others { (memory.new.records ≡ memory.old.records) × (memory.new.attached ≡ memory.old.attached) }
+    ensures logs { memory.new.logs ≡ memory.old.logs }
     ensures session_still { OnOk result (IsBetweenSteps S.Store store.new memory.new) }
     ensures least { OnOk result (IsWidened (S.site store.old).count (table_alone (S.table store.old)) parent.now to (table_alone (S.table store.new))) }
     ensures shape { OnOk result (ShapesAs S.Store command.Gc store.old memory.old store.new memory.new) }

@@ -43,6 +43,7 @@ fn copy_into_parent<S: Store>(
     ensures spare { memory.new.tree.spare ≡ memory.old.tree.spare }
     ensures operation { OnOk result (memory.new.operation ≡ advanced block memory.old.operation) }
     ensures others { (memory.new.records ≡ memory.old.records) × (memory.new.attached ≡ memory.old.attached) }
+    ensures logs { memory.new.logs ≡ memory.old.logs }
     ensures session_still { OnOk result (IsBetweenSteps S.Store store.new memory.new) }
     ensures next { is_dirty block (dirty_in memory.old.operation) ≡ true → next_step (store_shape S.Store store.old memory.old) ≡ plan.Swap
         → OnOk result (next_step (store_shape S.Store store.new memory.new) ≡ plan.Swap) }
@@ -99,6 +100,7 @@ pub fn copy_block<S: Store>(
     ensures spare { memory.new.tree.spare ≡ memory.old.tree.spare }
     ensures operation { OnOk result (memory.new.operation ≡ advanced block memory.old.operation) }
     ensures others { (memory.new.records ≡ memory.old.records) × (memory.new.attached ≡ memory.old.attached) }
+    ensures logs { memory.new.logs ≡ memory.old.logs }
     ensures session_still { OnOk result (IsBetweenSteps S.Store store.new memory.new) }
     ensures lowered { OnOk result (∥ IsLess (debt (store_shape S.Store store.new memory.new)) (debt (store_shape S.Store store.old memory.old)) ∥₁) }
     ensures shape { S.told → IsReadyStore S.Store store.old memory.old → OnOk result (ShapesAs S.Store command.Gc store.old memory.old store.new memory.new) }
@@ -136,6 +138,7 @@ pub fn copy_dirty<S: Store>(
     ensures spare { memory.new.tree.spare ≡ memory.old.tree.spare }
     ensures operation { OnOk result (memory.new.operation ≡ advanced block memory.old.operation) }
     ensures others { (memory.new.records ≡ memory.old.records) × (memory.new.attached ≡ memory.old.attached) }
+    ensures logs { memory.new.logs ≡ memory.old.logs }
     ensures session_still { OnOk result (IsBetweenSteps S.Store store.new memory.new) }
     ensures next { next_step (store_shape S.Store store.old memory.old) ≡ plan.Swap → OnOk result (next_step (store_shape S.Store store.new memory.new) ≡ plan.Swap) }
     ensures shape { S.told → IsReadyStore S.Store store.old memory.old

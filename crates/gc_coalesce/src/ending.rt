@@ -64,6 +64,7 @@ pub fn abandon<S: Store>(store: &mut S, memory: &mut Memory) -> Result<(), Faile
     ensures keeps { S.told → Keeps (S.area store.old) (S.area store.new) }
     ensures operation { OnOk result (memory.new.operation ≡ op.Idle) }
     ensures others { (memory.new.tree ≡ memory.old.tree) × (memory.new.records ≡ memory.old.records) × (memory.new.attached ≡ memory.old.attached) }
+    ensures logs { memory.new.logs ≡ memory.old.logs }
     ensures session_still { OnOk result (IsBetweenSteps S.Store store.new memory.new) }
     ensures shape { OnOk result (ShapesAs S.Store command.Gc store.old memory.old store.new memory.new) }
     ensures done { S.told → IsReadyStore S.Store store.old memory.old → StoreDoes S.Store command.Gc store.old memory.old store.new memory.new (result ≡ Ok tt) }
@@ -90,6 +91,7 @@ pub fn turn<S: Store>(store: &mut S, memory: &mut Memory) -> Result<(), Failed>
     ensures keeps { S.told → Keeps (S.area store.old) (S.area store.new) }
     ensures operation { OnOk result (memory.new.operation ≡ turned memory.old.operation) }
     ensures others { (memory.new.tree ≡ memory.old.tree) × (memory.new.records ≡ memory.old.records) × (memory.new.attached ≡ memory.old.attached) }
+    ensures logs { memory.new.logs ≡ memory.old.logs }
     ensures session_still { OnOk result (IsBetweenSteps S.Store store.new memory.new) }
     ensures shape { OnOk result (ShapesAs S.Store command.Gc store.old memory.old store.new memory.new) }
     ensures done { S.told → IsReadyStore S.Store store.old memory.old → StoreDoes S.Store command.Gc store.old memory.old store.new memory.new (result ≡ Ok tt) }
@@ -124,6 +126,7 @@ pub fn finish<S: Store>(store: &mut S, memory: &mut Memory) -> Result<(), Failed
     ensures table { OnOk result ((e : NameModel) → entry_of memory.old.operation ≡ e ∷ [] → table_alone (S.table store.new) ≡ applied (table_alone (S.table store.old)) (Remove e)) }
     ensures operation { OnOk result (memory.new.operation ≡ op.Idle) }
     ensures others { (memory.new.tree ≡ memory.old.tree) × (memory.new.records ≡ memory.old.records) × (memory.new.attached ≡ memory.old.attached) }
+    ensures logs { memory.new.logs ≡ memory.old.logs }
     ensures room { HasRows (S.table store.old) → OnOk result (HasRows (S.table store.new)) }
     ensures orderly_still { OnOk result (IsOrderlyStore S.Store store.new memory.new) }
     ensures tidy_still { IsTidyStore S.Store store.old memory.old → OnOk result (IsTidyStore S.Store store.new memory.new) }

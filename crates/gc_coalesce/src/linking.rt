@@ -36,6 +36,7 @@ pub fn relink_one<S: Store>(store: &mut S, memory: &mut Memory, child: &Name) ->
     ensures images { length memory.new.tree.rows ≡ length memory.old.tree.rows }
     ensures spare { memory.new.tree.spare ≡ memory.old.tree.spare }
     ensures others { (memory.new.records ≡ memory.old.records) × (memory.new.operation ≡ memory.old.operation) }
+    ensures logs { memory.new.logs ≡ memory.old.logs }
     ensures attached { (memory.new.attached.disks ≡ memory.old.attached.disks) × (memory.old.attached.room ≤ memory.new.attached.room) }
     ensures settled { S.told → OnOk result (IsSettled (S.area store.new)) }
     ensures room { HasRows (S.table store.old) → OnOk result (HasRows (S.table store.new)) }

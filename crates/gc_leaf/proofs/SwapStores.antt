@@ -95,17 +95,17 @@ module _ {S : Type 0} (g : Ghosts S) (a : S) (m : Memory) {l p : Name} {cursor :
           (λ y is. subst (λ x. GoesOn (ShowsBetween s before was was (known m).logs) (IsReadyWith (known_with h att) was) x (commits (Remove (Leaf (image_uuid l) (image_uuid p)) ∷ []))) (sym is)
           (ready_fine s last (known_with h att) (reads (g.area a)) before was was (orderly_then h att so) last_ready.ready last_ready.shown, last_ready))
 
-      done : {b : S} {came ok : Type 0} (n : Memory) → DoesRun g (commits changes) a b came → (ok → came × (known n ≡ known_with h att)) → StoreDoes g Gc a m b n ok
+      done : {b : S} {came ok : Type 0} (n : Memory) → n.logs ≡ m.logs → DoesRun g (commits changes) a b came → (ok → came × (known n ≡ known_with h att)) → StoreDoes g Gc a m b n ok
       unfolding disks_next
-      done n run by = law_run (known n) told run well refl by
+      done n same_logs run by = law_run (known n) told run well same_logs by
 
       -- all of them succeeded
       pub done_end : {b : S} → DoesRun g (commits changes) a b (Unit {0}) → (tree : Tree) → tree.rows ≡ swapped_rows l (tree_row m.tree.rows p) p m.tree.rows → (n : Memory) → n ≡ after tree att → (ok : Type 0) → StoreDoes g Gc a m b n ok
-      done_end run tree is n same ok = done n run (λ fine. (tt, ap known same ∙ memory tree att is))
+      done_end run tree is n same ok = done n (ap (λ (x : Memory). x.logs) same) run (λ fine. (tt, ap known same ∙ memory tree att is))
 
     -- one of them failed
-    pub done_failed : {b : S} → DoesRun g (commits changes) a b ⊥ → (n : Memory) (ok : Type 0) → (ok → ⊥) → StoreDoes g Gc a m b n ok
-    done_failed run n ok never = done (counted_then h) (counted_as h) n run (λ fine. absurd (never fine))
+    pub done_failed : {b : S} → DoesRun g (commits changes) a b ⊥ → (n : Memory) (ok : Type 0) → (ok → ⊥) → n.logs ≡ m.logs → StoreDoes g Gc a m b n ok
+    done_failed run n ok never same_logs = done (counted_then h) (counted_as h) n same_logs run (λ fine. absurd (never fine))
 
     -- whatever a stop leaves among them shows the disks of an image that might be left before
     pub shows_still : {b : S} {came : Type 0} → DoesRun g (commits changes) a b came → (w : VolumeTable) (image : ℕ → List ℕ) → g.leaves b w image → MayShow s before (disks (content_in s w image))

@@ -110,6 +110,7 @@ pub fn swap<S: Store>(store: &mut S, memory: &mut Memory) -> Result<(), Failed>
     ensures counts { OnOk result ((leaf parent : NameModel) → IsFoldingOf memory.old.operation leaf parent
         → CountsAs memory.old.operation parent memory.old.attached memory.new.attached) }
     ensures others { memory.new.records ≡ memory.old.records }
+    ensures logs { memory.new.logs ≡ memory.old.logs }
     ensures images { OnOk result (length memory.new.tree.rows < length memory.old.tree.rows) }
     ensures session_still { OnOk result (IsBetweenSteps S.Store store.new memory.new) }
     ensures shape { OnOk result (ShapesAs S.Store command.Gc store.old memory.old store.new memory.new) }

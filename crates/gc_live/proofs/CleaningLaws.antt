@@ -55,17 +55,18 @@ module _ {S : Type 0} {g : Ghosts S} {b : S} {n : Memory} (session : IsBetweenSt
     operation_more = ap clean_op is ∙ ∥∥₁_elim session.orderly.well_formed (hlevel props) (λ x. clean_more (store_shape g b n) block x first)
 
     -- the first of them
-    pub cleaned_once : StepsOn g 0 b d → g.faults d ≡ g.faults b → IsBetweenSteps g d k → length k.tree.rows ≡ length n.tree.rows → k.records ≡ n.records → k.attached ≡ n.attached
+    pub cleaned_once : StepsOn g 0 b d → g.faults d ≡ g.faults b → IsBetweenSteps g d k → length k.tree.rows ≡ length n.tree.rows → k.records ≡ n.records → k.logs ≡ n.logs → k.attached ≡ n.attached
         → (next_step (store_shape g b n) ≡ plan.Swap → next_step (store_shape g d k) ≡ plan.Swap)
         → (g.told → IsReadyStore g b n → store_shape g d k ≡ copied n.operation block (store_shape g b n))
         → (g.told → IsReadyStore g b n → HasDone (g.site b) (tab g b) (tab g d) (g.area b) (g.area d) (known k) (StoreLeaves g b) (StoreLeaves g d) (Unit {0}) (disks (store_content g b)))
         → (g.told → IsReadyStore g b n → Leaves g d (λ t image. MayShow (g.site b) (StoreLeaves g b) (disks (content_in (g.site b) t image)))) → IsCleaned g b n d k
-    cleaned_once step calm between images records attached next shape done still = record {
+    cleaned_once step calm between images records logs attached next shape done still = record {
       step = step;
       calm = calm;
       session = between;
       images = images;
       records = records;
+      logs = logs;
       attached = attached;
       operation = operation_more;
       next = next;
@@ -102,19 +103,20 @@ module _ {S : Type 0} {g : Ghosts S} (now : LeavesNow g) {a : S} {m : Memory} (i
 
     -- another dirty block was copied
     pub cleaned_next : (block : ℕ) → least (dirty_in n.operation) ≡ Some block → (d : S) (k : Memory) → k.operation ≡ advanced block n.operation
-        → StepsOn g 0 b d → g.faults d ≡ g.faults b → IsBetweenSteps g d k → length k.tree.rows ≡ length n.tree.rows → k.records ≡ n.records → k.attached ≡ n.attached
+        → StepsOn g 0 b d → g.faults d ≡ g.faults b → IsBetweenSteps g d k → length k.tree.rows ≡ length n.tree.rows → k.records ≡ n.records → k.logs ≡ n.logs → k.attached ≡ n.attached
         → (next_step (store_shape g b n) ≡ plan.Swap → next_step (store_shape g d k) ≡ plan.Swap)
         → (g.told → IsReadyStore g b n → store_shape g d k ≡ copied n.operation block (store_shape g b n))
         → (g.told → IsReadyStore g b n → HasDone (g.site b) (tab g b) (tab g d) (g.area b) (g.area d) (known k) (StoreLeaves g b) (StoreLeaves g d) (Unit {0}) (disks (store_content g b)))
         → (g.told → IsReadyStore g b n → Leaves g d (λ t image. MayShow (g.site b) (StoreLeaves g b) (disks (content_in (g.site b) t image)))) → IsCleaned g a m d k
-    cleaned_next block first d k is step calm between images records attached next shape done still =
-        let one = cleaned_once c.session block first d k is step calm between images records attached next shape done still in
+    cleaned_next block first d k is step calm between images records logs attached next shape done still =
+        let one = cleaned_once c.session block first d k is step calm between images records logs attached next shape done still in
         record {
           step = then_steps c.step step;
           calm = calm ∙ c.calm;
           session = between;
           images = images ∙ c.images;
           records = records ∙ c.records;
+          logs = logs ∙ c.logs;
           attached = attached ∙ c.attached;
           operation = one.operation ∙ c.operation;
           next = λ planned. next (c.next planned);

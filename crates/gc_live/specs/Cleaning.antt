@@ -41,6 +41,7 @@ pub record IsCleaned {S : Type 0} (g : Ghosts S) (a : S) (m : Memory) (b : S) (n
   pub session : IsBetweenSteps g b n
   pub images : length n.tree.rows ≡ length m.tree.rows
   pub records : n.records ≡ m.records
+  pub logs : n.logs ≡ m.logs
   pub attached : n.attached ≡ m.attached
   pub operation : clean_op n.operation ≡ clean_op m.operation
   pub next : next_step (store_shape g a m) ≡ plan.Swap → next_step (store_shape g b n) ≡ plan.Swap

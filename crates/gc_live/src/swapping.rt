@@ -40,6 +40,7 @@ fn clean<S: Store>(
     ensures cause { Counts S.Store result store.old store.new }
     ensures pool { pool.new ≡ pool.old }
     ensures others { (memory.new.records ≡ memory.old.records) × (memory.new.attached ≡ memory.old.attached) }
+    ensures logs { memory.new.logs ≡ memory.old.logs }
     ensures cleaned { OnOk result (IsCleaned S.Store store.old memory.old store.new memory.new) }
     ensures none { OnOk result (dirty_in memory.new.operation ≡ []) }
     ensures done { S.told → IsReadyStore S.Store store.old memory.old
@@ -72,6 +73,7 @@ pub fn swap<S: Store>(store: &mut S, memory: &mut Memory, pool: &mut Pool) -> Re
     ensures counts { OnOk result ((leaf parent : NameModel) → IsFoldingOf memory.old.operation leaf parent
         → CountsAs memory.old.operation parent memory.old.attached memory.new.attached) }
     ensures records { memory.new.records ≡ memory.old.records }
+    ensures logs { memory.new.logs ≡ memory.old.logs }
     ensures session_still { OnOk result (IsBetweenSteps S.Store store.new memory.new) }
     ensures lowered { OnOk result (∥ IsLess (debt (store_shape S.Store store.new memory.new)) (debt (store_shape S.Store store.old memory.old)) ∥₁) }
     ensures shape { S.told → IsReadyStore S.Store store.old memory.old → OnOk result (ShapesAs S.Store command.Gc store.old memory.old store.new memory.new) }

@@ -64,7 +64,7 @@ commits g c = subst (λ n. Commits g.S.Store (Create n false []) c.raise.new.sto
 
 -- memory behind it
 abbrev behind : (g : Over) (c : goal.After-set g) → Memory
-behind g c = record { tree = c.raise.new.memory.tree; records = c.raise.new.memory.records; attached = c.raise.new.memory.attached; operation = c.set.new.self }
+behind g c = record { tree = c.raise.new.memory.tree; records = c.raise.new.memory.records; logs = c.raise.new.memory.logs; attached = c.raise.new.memory.attached; operation = c.set.new.self }
 
 behind_is : (g : Over) (c : goal.After-set g) → known (behind g c) ≡ record (known c.raise.new.memory) { op = copy_of c.args.kind c.args.child.now c.args.parent.now 0 [] }
 behind_is g c = ap (λ o. let k : Known = record (known c.raise.new.memory) { op = o } in k) (c.set.ensures ∙ c.first.ensures)

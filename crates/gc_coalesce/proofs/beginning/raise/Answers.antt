@@ -95,7 +95,7 @@ returns-in_err-sized-clause-others g c =
     beside_resized c.args.memory.now _ (with_image c.set_size-sized.new.self c.in-Some.row)
     (rows_back _ _ (known c.args.memory.now) c.requires.session.orderly c.in-Some.row (unwritten g c).there c.set_size-sized.new.self
     (name_kept c.set_size-sized.result c.size_of-sectors.result c.in-Some.row.image c.set_size-sized.new.self c.set_size-sized.ensures.new_size c.set_size-sized.ensures.unchanged) (sym named) c.take.ensures.rows c.add.ensures.rows)
-    (spared c.take.ensures.some c.in-Some.is c.add.ensures.spare) refl refl refl
+    (spared c.take.ensures.some c.in-Some.is c.add.ensures.spare) refl refl refl refl
 
 pub returns-in_err-sized-clause-safe : goal.returns-in_err-sized-clause-safe
 returns-in_err-sized-clause-safe g c = λ told ready.
@@ -119,7 +119,7 @@ memory_is : (g : Over) (c : goal.In_ok-sized g) → record (known c.args.memory.
 memory_is g c = ap (λ (rs : List TreeRow). let k : Known = record (known c.args.memory.now) { rows = rs } in k) (rows_sized g c)
 
 pub returns-clause-others : goal.returns-clause-others
-returns-clause-others g c = beside_resized c.args.memory.now _ (with_image c.set_size-sized.new.self c.in-Some.row) (rows_are g c) (spared c.take.ensures.some c.in-Some.is c.add.ensures.spare) refl refl refl
+returns-clause-others g c = beside_resized c.args.memory.now _ (with_image c.set_size-sized.new.self c.in-Some.row) (rows_are g c) (spared c.take.ensures.some c.in-Some.is c.add.ensures.spare) refl refl refl refl
 
 pub returns-clause-session_still : goal.returns-clause-session_still
 returns-clause-session_still g c =
@@ -134,7 +134,7 @@ returns-clause-session_still g c =
           (subst (λ t. IsTidy t (after (written g c))) (sym stays.table) (tidy_sized _ _ (known c.args.memory.now) i.orderly c.in-Some.row (written g c).there c.size_of-sectors.result i.tidy));
       true_images = true_sized g.S.Store c.args.store.now c.set_size-sized.new.store c.args.memory.now c.size_of-sectors.result c.in-Some.row i.orderly (written g c).there c.set_size-sized.ensures.works
           c.set_size-sized.new.store refl refl (λ told. Keeps-none _) c.set_size-sized.new.self c.in_ok-sized.ensures.new_size c.in_ok-sized.ensures.true_after
-          (record { tree = c.add.new.self; records = c.args.memory.now.records; attached = c.args.memory.now.attached; operation = c.args.memory.now.operation }) (rows_sized g c) i.true_images;
+          (record { tree = c.add.new.self; records = c.args.memory.now.records; logs = c.args.memory.now.logs; attached = c.args.memory.now.attached; operation = c.args.memory.now.operation }) (rows_sized g c) i.true_images;
       rows = rows_stays stays i.rows;
       tree_room = omega (arith, beside.images, beside.spare, i.tree_room);
       attachment_room = i.attachment_room;

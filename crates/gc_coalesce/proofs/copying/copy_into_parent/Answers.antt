@@ -96,7 +96,7 @@ stopped g c = record {
 
 -- what is in memory then
 abbrev stopped_memory : (g : Over) (c : goal.After-from_residual-in_err-copied g) → Memory
-stopped_memory g c = record { tree = c.add.new.self; records = c.args.memory.now.records; attached = c.args.memory.now.attached; operation = c.args.memory.now.operation }
+stopped_memory g c = record { tree = c.add.new.self; records = c.args.memory.now.records; logs = c.args.memory.now.logs; attached = c.args.memory.now.attached; operation = c.args.memory.now.operation }
 
 stopped_rows : (g : Over) (c : goal.After-from_residual-in_err-copied g)
     → c.add.new.self.rows ≡ with_replaced (with_image c.copy_sectors-copied.new.parent c.in-Some.row) c.args.memory.now.tree.rows
@@ -107,7 +107,7 @@ pub returns-in_err-copied-clause-images : goal.returns-in_err-copied-clause-imag
 returns-in_err-copied-clause-images g c = ap (λ (rs : List TreeRow). length rs) (stopped_rows g c) ∙ length-map c.args.memory.now.tree.rows _
 
 pub returns-in_err-copied-clause-done : goal.returns-in_err-copied-clause-done
-returns-in_err-copied-clause-done g c = failed_done (stopped g c) (stopped_memory g c) _ (λ fine. err_not_ok _ tt c.from_residual-in_err-copied.ensures.0 fine)
+returns-in_err-copied-clause-done g c = failed_done (stopped g c) (stopped_memory g c) _ (λ fine. err_not_ok _ tt c.from_residual-in_err-copied.ensures.0 fine) refl
 
 pub returns-in_err-copied-clause-masked : goal.returns-in_err-copied-clause-masked
 returns-in_err-copied-clause-masked g c = failed_masked (stopped g c)
@@ -132,7 +132,7 @@ unsynced_last g c = let e = c.sync-2.ensures in record { site = e.site; table = 
 
 -- what is in memory then
 abbrev unsynced_memory : (g : Over) (c : goal.After-from_residual-in_err-sync-2 g) → Memory
-unsynced_memory g c = record { tree = c.add.new.self; records = c.args.memory.now.records; attached = c.args.memory.now.attached; operation = c.args.memory.now.operation }
+unsynced_memory g c = record { tree = c.add.new.self; records = c.args.memory.now.records; logs = c.args.memory.now.logs; attached = c.args.memory.now.attached; operation = c.args.memory.now.operation }
 
 unsynced_rows : (g : Over) (c : goal.After-from_residual-in_err-sync-2 g)
     → c.add.new.self.rows ≡ with_replaced (with_image c.copy_sectors-copied.new.parent c.in-Some.row) c.args.memory.now.tree.rows
@@ -143,7 +143,7 @@ pub returns-in_err-sync-2-clause-images : goal.returns-in_err-sync-2-clause-imag
 returns-in_err-sync-2-clause-images g c = ap (λ (rs : List TreeRow). length rs) (unsynced_rows g c) ∙ length-map c.args.memory.now.tree.rows _
 
 pub returns-in_err-sync-2-clause-done : goal.returns-in_err-sync-2-clause-done
-returns-in_err-sync-2-clause-done g c = unsynced_done (unsynced g c) (unsynced_last g c) (unsynced_memory g c) _ (λ fine. err_not_ok _ tt c.from_residual-in_err-sync-2.ensures.0 fine)
+returns-in_err-sync-2-clause-done g c = unsynced_done (unsynced g c) (unsynced_last g c) (unsynced_memory g c) _ (λ fine. err_not_ok _ tt c.from_residual-in_err-sync-2.ensures.0 fine) refl
 
 pub returns-in_err-sync-2-clause-masked : goal.returns-in_err-sync-2-clause-masked
 returns-in_err-sync-2-clause-masked g c = synced_masked (unsynced g c) (unsynced_last g c)
@@ -173,7 +173,7 @@ lasting_last g c = let e = c.sync-2.ensures in record { site = e.site; table = e
 
 -- what is in memory then
 abbrev lasting_memory : (g : Over) (c : goal.After-advance g) → Memory
-lasting_memory g c = record { tree = c.add.new.self; records = c.args.memory.now.records; attached = c.args.memory.now.attached; operation = c.advance.new.self }
+lasting_memory g c = record { tree = c.add.new.self; records = c.args.memory.now.records; logs = c.args.memory.now.logs; attached = c.args.memory.now.attached; operation = c.advance.new.self }
 
 lasting_rows : (g : Over) (c : goal.After-advance g)
     → c.add.new.self.rows ≡ with_replaced (with_image c.copy_sectors-copied.new.parent c.in-Some.row) c.args.memory.now.tree.rows

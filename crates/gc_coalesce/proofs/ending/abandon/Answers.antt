@@ -39,7 +39,7 @@ returns-in_err-drop_entry-clause-done g c = λ told ready.
     let h = ends g.S.Store c.args.store.now c.args.memory.now r.session.orderly (told_copy _ _ _ _ (sym c.told.ensures ∙ c.in-Copy.is)) refl c.copy_entry.ensures in
     gc_failed g.S.Store c.args.store.now c.args.memory.now h
     (is_told g.S.Store c.args.store.now c.args.memory.now r.session.orderly r.session.usable told ready (g.met.S.Store.leaves_now c.args.store.now told r.session.usable))
-    c.args.memory.now _ (λ fine. err_not_ok _ tt c.from_residual.ensures.0 fine) c.in_err-drop_entry.ensures.fails (c.drop_entry.ensures.crash told)
+    c.args.memory.now _ (λ fine. err_not_ok _ tt c.from_residual.ensures.0 fine) refl c.in_err-drop_entry.ensures.fails (c.drop_entry.ensures.crash told)
 
 pub returns-clause-shape : goal.returns-clause-shape
 returns-clause-shape g c =

@@ -44,7 +44,7 @@ returns-in_err-drop_entry-clause-done g c = λ told ready.
     let h = ends g.S.Store c.args.store.now c.args.memory.now r.orderly (told_relink _ _ _ (sym c.told.ensures ∙ c.in-Relink.is)) refl c.link_entry.ensures in
     gc_failed g.S.Store c.args.store.now c.args.memory.now h
     (is_told g.S.Store c.args.store.now c.args.memory.now r.orderly r.usable told ready (g.met.S.Store.leaves_now c.args.store.now told r.usable))
-    c.args.memory.now _ (λ fine. err_not_ok _ tt c.from_residual.ensures.0 fine) c.in_err-drop_entry.ensures.fails (c.drop_entry.ensures.crash told)
+    c.args.memory.now _ (λ fine. err_not_ok _ tt c.from_residual.ensures.0 fine) refl c.in_err-drop_entry.ensures.fails (c.drop_entry.ensures.crash told)
 
 pub returns-clause-table : goal.returns-clause-table
 returns-clause-table g c = λ e is.

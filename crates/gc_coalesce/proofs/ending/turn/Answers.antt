@@ -46,7 +46,7 @@ returns-in_err-replace-clause-done g c = λ told ready.
     let h = turns g.S.Store c.args.store.now c.args.memory.now r.session.orderly r.planned (told_copy _ _ _ _ (sym c.told.ensures ∙ c.in-Copy.is)) c.copy_entry.ensures c.link_entry.ensures in
     gc_failed g.S.Store c.args.store.now c.args.memory.now h
     (is_told g.S.Store c.args.store.now c.args.memory.now r.session.orderly r.session.usable told ready (g.met.S.Store.leaves_now c.args.store.now told r.session.usable))
-    c.args.memory.now _ (λ fine. err_not_ok _ tt c.from_residual.ensures.0 fine) c.in_err-replace.ensures.fails (c.replace.ensures.crash told)
+    c.args.memory.now _ (λ fine. err_not_ok _ tt c.from_residual.ensures.0 fine) refl c.in_err-replace.ensures.fails (c.replace.ensures.crash told)
 
 pub returns-clause-operation : goal.returns-clause-operation
 unfolding turned

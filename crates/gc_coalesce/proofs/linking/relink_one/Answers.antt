@@ -211,7 +211,7 @@ returns-clause-true_still g c =
     (links_there g.S.Store c.args.store.now c.sync.new.self c.args.memory.now c.args.child.now c.in-Relink.out c.in-Relink.parent c.in-Some.row c.sync.ensures.site c.sync.ensures.table.0
     (lasting g c)) above.0 above.1
     c.set_parent-linked.ensures.works c.sync-2.new.self c.sync-2.ensures.site c.sync-2.ensures.table.0 c.sync-2.ensures.keeps
-    (record { tree = c.add.new.self; records = c.args.memory.now.records; attached = c.relinked.new.self; operation = c.args.memory.now.operation }) c.set_parent-linked.new.self
+    (record { tree = c.add.new.self; records = c.args.memory.now.records; logs = c.args.memory.now.logs; attached = c.relinked.new.self; operation = c.args.memory.now.operation }) c.set_parent-linked.new.self
     (rows_are g c) c.in_ok-linked.ensures.new_parent c.in_ok-linked.ensures.true_after
     (true_stays g.S.Store c.args.memory.now c.args.memory.now c.sync.ensures.site c.sync.ensures.table.0 refl c.sync.ensures.keeps c.requires.true_now)
 

@@ -1,3 +1,4 @@
+use Rattle.std.proofs.Common.{refl}
 use Rattle.sm_ready.proofs.ChainLaws.{err_not_ok}
 use Rattle.vg_meta.specs.declared.changes.Change.TheVariants.{Remove}
 use Rattle.sm_ready.proofs.FramingLaws.{commit_steps, failed_steps}
@@ -18,7 +19,7 @@ returns-in_err-drop_volume-clause-done g c = λ told ready.
     let h = to_remove _ _ (known c.args.memory.now) c.args.name.now r.session.orderly r.session.tidy r.planned in
     failed_end g.S.Store c.args.store.now c.args.memory.now h
     (is_told g.S.Store c.args.store.now c.args.memory.now r.session.orderly r.session.usable told ready (g.met.S.Store.leaves_now c.args.store.now told r.session.usable))
-    c.args.memory.now _ (λ fine. err_not_ok _ tt c.from_residual.ensures.0 fine) c.in_err-drop_volume.ensures.fails (c.drop_volume.ensures.crash told)
+    c.args.memory.now _ (λ fine. err_not_ok _ tt c.from_residual.ensures.0 fine) refl c.in_err-drop_volume.ensures.fails (c.drop_volume.ensures.crash told)
 
 pub returns-clause-shape : goal.returns-clause-shape
 returns-clause-shape g c =

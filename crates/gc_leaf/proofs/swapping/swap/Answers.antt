@@ -1,4 +1,4 @@
-use Rattle.std.proofs.Common.{sym, ap, ◌∙◌, subst, subst₂, arith}
+use Rattle.std.proofs.Common.{refl, sym, ap, ◌∙◌, subst, subst₂, arith}
 use Rattle.vg_meta.specs.Roomy.{table_alone}
 use Rattle.sm_machine.specs.Shapes.{image_uuid}
 use Rattle.sm_machine.specs.declared.commands.Command.TheVariants.{Gc}
@@ -38,7 +38,7 @@ pub returns-in_err-run-clause-done : goal.returns-in_err-run-clause-done
 returns-in_err-run-clause-done g c = λ told ready.
     let h = to_swap _ _ (known c.args.memory.now) _ _ c.requires.session.orderly c.requires.session.tidy c.requires.planned c.requires.clean c.folded-leaf.ensures in
     let run = subst₂ (λ x y. DoesRun g.S.Store (commits (swap_changes x y)) c.args.store.now c.run.new.store ⊥) c.vhd_uuid.ensures c.vhd_uuid-2.ensures c.in_err-run.ensures.cut in
-    done_failed g.S.Store c.args.store.now c.args.memory.now h told c.requires.session.usable ready run c.args.memory.now _ (λ fine. err_not_ok _ tt c.from_residual.ensures.0 fine)
+    done_failed g.S.Store c.args.store.now c.args.memory.now h told c.requires.session.usable ready run c.args.memory.now _ (λ fine. err_not_ok _ tt c.from_residual.ensures.0 fine) refl
 
 pub returns-in_err-run-clause-still : goal.returns-in_err-run-clause-still
 returns-in_err-run-clause-still g c = λ told ready again.

@@ -13,7 +13,7 @@ loop-block-init g c =
     let e = c.copy_dirty.ensures in
     let ok = c.in_ok-copy_dirty.ensures in
     let is : c.copy_dirty.result ≡ Ok tt = search rules in (
-      cleaned_once {g = g.S.Store} c.requires.session c.args.first c.requires.first c.copy_dirty.new.store c.copy_dirty.new.memory ok.operation e.step ok.cause.1 ok.session_still e.images e.others.0 e.others.1 ok.next ok.shape
+      cleaned_once {g = g.S.Store} c.requires.session c.args.first c.requires.first c.copy_dirty.new.store c.copy_dirty.new.memory ok.operation e.step ok.cause.1 ok.session_still e.images e.others.0 e.logs e.others.1 ok.next ok.shape
           (λ told made. now_done g.S.Store c.args.store.now c.copy_dirty.new.store is (e.done told made)) e.still,
       e.pool,
     )
@@ -32,7 +32,7 @@ loop-block-preserved g c =
     let ok = c.in_ok-copy_dirty-2.ensures in
     let is : c.copy_dirty-in-Some.result ≡ Ok tt = search rules in (
       cleaned_next {g = g.S.Store} g.met.S.Store.leaves_now c.requires.session i.0 c.in-Some.block (sym c.least_dirty.ensures ∙ c.in-Some.is) c.copy_dirty-in-Some.new.store c.copy_dirty-in-Some.new.memory ok.operation
-          e.step ok.cause.1 ok.session_still e.images e.others.0 e.others.1 ok.next ok.shape
+          e.step ok.cause.1 ok.session_still e.images e.others.0 e.logs e.others.1 ok.next ok.shape
           (λ told made. now_done g.S.Store c.loop-block.store c.copy_dirty-in-Some.new.store is (e.done told made)) e.still,
       e.pool ∙ i.1,
     )
