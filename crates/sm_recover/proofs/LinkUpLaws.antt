@@ -1,6 +1,6 @@
 -- A link that a stop has cut short, taken up again: memory that is orderly and ready beside the table without the entry is so beside the
 -- table with it, as the collector's operation.
-use Rattle.std.proofs.Common.{◌≡◌, ℕ, ◌||◌, Bool, true, false, cond, List, [], ◌∷◌, filter, Option, Some, None, refl, sym, ap, ap₂, ◌∙◌, subst}
+use Rattle.std.proofs.Common.{◌≡◌, ℕ, ◌≤◌, ◌||◌, Bool, true, false, cond, List, [], ◌∷◌, length, filter, Option, Some, None, refl, sym, ap, ap₂, ◌∙◌, subst, arith}
 use Rattle.std.specs.List.{AllByRecursion}
 use Rattle.std.proofs.lemmas.Bool.{true≢false}
 use Rattle.std.proofs.lemmas.Option.{none-some, same_Some}
@@ -65,6 +65,11 @@ plain_no_entry (Leaf l p) h = absurd (true≢false (sym h))
 no_entries : (rs : List Row) → AllByRecursion (λ r. is_plain r ≡ true) rs → filter is_entry (names_of rs) ≡ []
 no_entries [] all = refl
 no_entries (r ∷ rs) all = ap (λ b. cond b (r.name ∷ filter is_entry (names_of rs)) (filter is_entry (names_of rs))) (plain_no_entry r.name all.0) ∙ no_entries rs all.1
+
+-- where the entry of a link is there, one entry at least is
+pub one_folding : (ns : List Name) (v : Name) → link_image (head ns) ≡ Some v → 1 ≤ length ns
+one_folding [] v is = absurd (none-some v is)
+one_folding (n ∷ ns) v is = omega arith
 
 -- the name of an image of a UUID
 pub uuid_named : (u : List ℕ) (n : Name) → has_uuid u n ≡ true → image_uuid n ≡ u

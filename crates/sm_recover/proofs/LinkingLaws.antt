@@ -290,6 +290,7 @@ module _ {S : Type 0} (g : Ghosts S) where
     true_images = true_images;
     images = refl;
     spare = refl;
+    logs = refl;
     records = refl;
     operation = refl;
     attached = refl;

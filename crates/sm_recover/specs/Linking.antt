@@ -85,6 +85,7 @@ pub record LinksSome {S : Type 0} (g : Ghosts S) (old : S) (m : Memory) (new : S
   pub images : length n.tree.rows ≡ length m.tree.rows
   pub spare : n.tree.spare ≡ m.tree.spare
   pub records : n.records ≡ m.records
+  pub logs : n.logs ≡ m.logs
   pub operation : n.operation ≡ m.operation
   pub attached : n.attached.disks ≡ m.attached.disks
   pub places : m.attached.room ≤ n.attached.room

@@ -1,7 +1,7 @@
 //! The second half of an opening: what stands in a store is checked, and what a stop has left is repaired.
 //!
 //! **What is kept here.** Nothing. A store of volumes goes in, and what a session keeps in memory comes out: the tree of
-//! the images, the places of the disks' records, no attachment and no operation. Sizes are in sectors of 512 bytes unless a
+//! the images, the places of the disks' records, no log, no attachment and no operation. Sizes are in sectors of 512 bytes unless a
 //! line says extents; a place of a record is a number from 0 to 511.
 //!
 //! **The model** (`specs/`). `Stores` has what an opening may leave (`IsRepairedFrom`). `Repairs` says what the checks leave known

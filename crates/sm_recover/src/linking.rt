@@ -45,6 +45,7 @@ pub fn link_up<S: Store>(store: &mut S, memory: &mut Memory) -> Result<(), Faile
     ensures at_ease { OnOk result (IsAtEase memory.new) }
     ensures attachments { OnOk result (memory.old.attached.room ≤ memory.new.attached.room) }
     ensures orderly { OnOk result (IsOrderlyStore S.Store store.new memory.new) }
+    ensures logs { memory.new.logs ≡ memory.old.logs }
     ensures true_still { OnOk result (HasTrueImages S.Store store.new memory.new) }
     ensures rest { OnOk result (S.told → IsLinkBegun (stored S.Store store.old) (known memory.old) → LinksRest S.Store store.old store.new memory.new) }
     ensures shape { OnOk result (LinkedBy (head (folding (table_alone (S.table store.old)))) memory.old.tree.rows
@@ -82,6 +83,7 @@ fn link_all<S: Store>(store: &mut S, memory: &mut Memory, child: &Name) -> Resul
     ensures counts { S.faults store.old ≤ S.faults store.new }
     ensures beside { S.told → Keeps (S.beside store.old) (S.beside store.new) }
     ensures cause { Counts S.Store result store.old store.new }
+    ensures logs { memory.new.logs ≡ memory.old.logs }
     ensures few { HasCommits 1 (table_alone (S.table store.old)) (table_alone (S.table store.new)) }
     ensures few_left { Leaves S.Store store.new (λ t image. HasCommits 1 (table_alone (S.table store.old)) t) }
     ensures all { OnOk result (LinksAll S.Store store.old memory.old store.new memory.new) }
@@ -103,6 +105,7 @@ fn link_children<S: Store>(store: &mut S, memory: &mut Memory, child: &Name) -> 
     ensures counts { S.faults store.old ≤ S.faults store.new }
     ensures beside { S.told → Keeps (S.beside store.old) (S.beside store.new) }
     ensures cause { Counts S.Store result store.old store.new }
+    ensures logs { memory.new.logs ≡ memory.old.logs }
     ensures table { table_alone (S.table store.new) ≡ table_alone (S.table store.old) }
     ensures few_left { Leaves S.Store store.new (λ t image. HasCommits 0 (table_alone (S.table store.old)) t) }
     ensures some { OnOk result (LinksSome S.Store store.old memory.old store.new memory.new) }

@@ -1,7 +1,7 @@
 //! All checks, one after another, and then the memory of a session: the images that stand, and room for all that may come.
 //! Nothing is written.
 
-ghost use Rattle.std.specs.Prelude.{◌≡◌, ◌≢◌, ◌≤◌, ◌+◌, None, Err, OnOk, IfOk, IfErr, IfNone, length};
+ghost use Rattle.std.specs.Prelude.{◌≡◌, ◌≢◌, ◌≤◌, ◌+◌, [], None, Err, OnOk, IfOk, IfErr, IfNone, length};
 ghost use Rattle.sm_disk.specs.Held.{IsSettled};
 ghost use Rattle.common_laws.specs.Lists.{first_some};
 ghost use Rattle.sm_mgt.specs.Places.{Agrees, place_count, records_of};
@@ -32,6 +32,7 @@ ghost use Rattle.vhd_chain.specs.Reading.{AllAreTrue};
 use crate::memory::{give_back, take_name};
 use sm_base::{IMAGE_LIMIT, NoMemory, OpenFault, Place};
 use sm_checks::{disk_fault, link_fault, load, table_fault, tree_fault};
+use sm_logs::Logs;
 use sm_mgt::Mgt;
 use sm_operation::Operation;
 use sm_ready::Memory;
@@ -59,6 +60,7 @@ pub fn checked_with_room<S: Store>(alloc: Global, store: &mut S) -> Result<Memor
         → IsReady (S.site store.old) (undone (unfolded (unleafed (table_alone (S.table store.old))))) (S.area store.old) (known m)) }
     ensures linking { IfOk result (λ m. IsLinkRight (unleafed (table_alone (S.table store.old))) m.tree.rows) }
     ensures at_ease { IfOk result IsAtEase }
+    ensures untracked { IfOk result (λ m. m.logs ≡ []) }
     ensures tree_room { IfOk result HasTreeRoom }
     ensures attachment_room { IfOk result (λ m. image_limit ≤ m.attached.room) }
     ensures true_images { IfOk result (λ m. S.told → IsSettled (S.area store.old) → AllAreTrue (stored_with S.Store store.old (undone (unfolded (unleafed (table_alone (S.table store.old)))))) m.tree.rows) }
@@ -76,11 +78,15 @@ pub fn checked_with_room<S: Store>(alloc: Global, store: &mut S) -> Result<Memor
     let Ok(operation) = Operation::new(alloc) else {
         return Err(OpenFault::NoMemory);
     };
+    let Ok(logs) = Logs::new(alloc) else {
+        return Err(OpenFault::NoMemory);
+    };
     take_name(&mut tree, store.table());
     give_back(&mut tree, store.table());
     Ok(Memory {
         tree,
         records,
+        logs,
         attached,
         operation,
     })

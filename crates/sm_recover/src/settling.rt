@@ -3,7 +3,7 @@
 //! disk are wiped. Each repair of the table is a commit of its own, so its sequence number rises by six at most for the folding of a leaf,
 //! by five at most for a fork, by two at most for an enlargement, by one for a copy or a link, and by one for each new volume.
 
-ghost use Rattle.std.specs.Prelude.{◌≡◌, ◌≢◌, ◌⊎◌, ◌<◌, ◌≤◌, ℕ, List, None, Err, false, OnOk, OnErr, IfOk, IfErr};
+ghost use Rattle.std.specs.Prelude.{◌≡◌, ◌≢◌, ◌⊎◌, ◌<◌, ◌≤◌, ℕ, List, [], None, Err, false, OnOk, OnErr, IfOk, IfErr};
 ghost use Rattle.sm_base.specs.declared.names.Name.TheVariants.{Mgt as mgt_name};
 ghost use Rattle.sm_disk.specs.Held.{IsSettled, Keeps, Rose};
 ghost use Rattle.sm_mgt.specs.Places.{place_count};
@@ -49,7 +49,7 @@ use vg_volumes::Store;
 /// Checks what stands in a store, all checks before the first write. Then a repository of an earlier version is taken over, and what a
 /// stop has left is repaired: the folding of a leaf is ended, the entry of a copy goes, a fork or an enlargement is undone, a link is ended,
 /// volumes that are new are removed, and records of no disk are wiped. Answers what a session keeps in memory: the images, the places of the
-/// records, no attachment and no operation. Memory is taken before the first write, and none after it.
+/// records, no log, no attachment and no operation. Memory is taken before the first write, and none after it.
 ///
 /// No check can see whether each slot of a VHD image holds a sector, nor whether under the entry of a link the parent holds whatever
 /// the image holds, as no check reads bitmaps. What is promised of the sectors and of the disks rests on it: it is so in each content
@@ -73,6 +73,7 @@ pub fn settle<S: Store>(alloc: Global, store: &mut S) -> Result<Memory, OpenFaul
     ensures orderly { IfOk result (λ m. IsOrderlyStore S.Store store.new m) }
     ensures tidy { IfOk result (λ m. IsTidyStore S.Store store.new m) }
     ensures at_ease { IfOk result IsAtEase }
+    ensures untracked { IfOk result (λ m. m.logs ≡ []) }
     ensures room { OnOk result (HasRows (S.table store.new)) }
     ensures tree_room { IfOk result HasTreeRoom }
     ensures attachment_room { IfOk result (λ m. image_limit ≤ m.attached.room) }
@@ -127,6 +128,7 @@ fn restore<S: Store>(store: &mut S, memory: &mut Memory) -> Result<(), Failed>
     requires orderly { IsOrderly (S.site store.old) (undone (unfolded (table_alone (S.table store.old)))) (known memory.old) }
     requires linking { IsLinkRight (table_alone (S.table store.old)) memory.old.tree.rows }
     requires at_ease { IsAtEase memory.old }
+    requires untracked { memory.old.logs ≡ [] }
     requires tree_room { HasTreeRoom memory.old }
     requires true_now { S.told → IsSettled (S.area store.old) × AllAreTrue (stored_undone S.Store store.old) memory.old.tree.rows }
     ensures site { S.site store.new ≡ S.site store.old }
@@ -141,6 +143,7 @@ fn restore<S: Store>(store: &mut S, memory: &mut Memory) -> Result<(), Failed>
     ensures tree_room { OnOk result (HasTreeRoom memory.new) }
     ensures attachments { OnOk result (memory.old.attached.room ≤ memory.new.attached.room) }
     ensures true_images { OnOk result (HasTrueImages S.Store store.new memory.new) }
+    ensures logs { memory.new.logs ≡ memory.old.logs }
     ensures cleaned { OnOk result (table_alone (S.table store.new) ≡ cleaned (undone (unfolded (table_alone (S.table store.old))))) }
     ensures few { HasFewRemovals (table_alone (S.table store.old)) (table_alone (S.table store.new)) }
     ensures few_left { Leaves S.Store store.new (λ t image. HasFewRemovals (table_alone (S.table store.old)) t) }
@@ -169,6 +172,7 @@ fn repair<S: Store>(store: &mut S, memory: &mut Memory) -> Result<(), Failed>
     ensures usable_still { OnOk result (S.failed store.new ≡ false) }
     ensures tree { memory.new.tree ≡ memory.old.tree }
     ensures attached { memory.new.attached ≡ memory.old.attached }
+    ensures logs { memory.new.logs ≡ memory.old.logs }
     ensures operation { memory.new.operation ≡ memory.old.operation }
     ensures room { OnOk result (HasRows (S.table store.old) → HasRows (S.table store.new)) }
     ensures cleaned { OnOk result (table_alone (S.table store.new) ≡ cleaned (table_alone (S.table store.old))) }

@@ -45,6 +45,7 @@ loop-name-preserved g c =
       images = e.images ∙ i.images;
       spare = e.spare ∙ i.spare;
       records = e.others.0 ∙ i.records;
+      logs = e.logs ∙ i.logs;
       operation = e.others.1 ∙ i.operation;
       attached = e.attached.0 ∙ i.attached;
       places = omega (arith, i.places, e.attached.1);

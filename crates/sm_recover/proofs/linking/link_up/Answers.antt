@@ -1,10 +1,10 @@
-use Rattle.std.proofs.Common.{sym, ap, ◌∙◌, subst}
+use Rattle.std.proofs.Common.{sym, ap, ◌∙◌, subst, arith}
 use Rattle.vg_meta.specs.Roomy.{table_alone}
 use Rattle.sm_standing.specs.Entries.{folding, head}
 use Rattle.sm_ready.specs.Sessions.{IsOrderlyStore, IsReadyStore}
 use Rattle.sm_recover.specs.Linking.{LinksAll, link_image}
 use Rattle.sm_recover.proofs.LinkingLaws.{links_none, links_rest}
-use Rattle.sm_recover.proofs.LinkUpLaws.{all_rest, all_shape, all_table, begun_orderly, begun_ready, none_orderly, none_rest, none_shape, same_table}
+use Rattle.sm_recover.proofs.LinkUpLaws.{all_rest, all_shape, all_table, begun_orderly, begun_ready, none_orderly, none_rest, none_shape, one_folding, same_table}
 use Rattle.sm_recover.proofs.linking.link_up.Goals as goal
 
 pub returns-in_default-clause-unfolded : goal.returns-in_default-clause-unfolded
@@ -38,11 +38,21 @@ link_all-requires-clause-orderly g c = subst (λ o. IsOrderlyStore g.S.Store c.a
     (begun_orderly g.S.Store c.args.store.now c.args.memory.now c.requires.linkable c.requires.orderly c.in-Some.child c.in-Some-parent.parent
     (sym c.in-Some.is ∙ c.linked_image.ensures ∙ ap (λ k. link_image (head (folding (table_alone k)))) c.table.ensures.table) (sym c.in-Some-parent.is ∙ c.parent.ensures))
 
+pub returns-in_err-link_all-clause-few_left : goal.returns-in_err-link_all-clause-few_left
+returns-in_err-link_all-clause-few_left g c = λ told t image leaves.
+    let some = one_folding (folding (table_alone (g.S.Store.table c.args.store.now))) c.in-Some.child (sym (c.linked_image.ensures ∙ ap (λ k. link_image (head (folding (table_alone k)))) c.table.ensures.table) ∙ c.in-Some.is) in
+    let few = c.link_all.ensures.few_left told t image leaves in omega (arith, some, few)
+
 pub returns-in_err-link_all-clause-crash : goal.returns-in_err-link_all-clause-crash
 returns-in_err-link_all-clause-crash g c = λ told t image leaves begun.
     c.link_all.ensures.crash told t image leaves begun.settled
     (subst (λ o. IsReadyStore g.S.Store c.args.store.now (record c.args.memory.now { operation = o })) (sym c.set.ensures) (begun_ready g.S.Store c.args.store.now c.args.memory.now c.requires.linkable c.requires.orderly c.in-Some.child c.in-Some-parent.parent
     (sym c.in-Some.is ∙ c.linked_image.ensures ∙ ap (λ k. link_image (head (folding (table_alone k)))) c.table.ensures.table) (sym c.in-Some-parent.is ∙ c.parent.ensures) begun))
+
+pub returns-clause-few_left : goal.returns-clause-few_left
+returns-clause-few_left g c = λ told t image leaves.
+    let some = one_folding (folding (table_alone (g.S.Store.table c.args.store.now))) c.in-Some.child (sym (c.linked_image.ensures ∙ ap (λ k. link_image (head (folding (table_alone k)))) c.table.ensures.table) ∙ c.in-Some.is) in
+    let few = c.link_all.ensures.few_left told t image leaves in omega (arith, some, few)
 
 pub returns-clause-unfolded : goal.returns-clause-unfolded
 returns-clause-unfolded g c =

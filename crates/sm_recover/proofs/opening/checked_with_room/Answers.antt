@@ -1,4 +1,4 @@
-use Rattle.std.proofs.Common.{List, [], sym, ap, ◌∙◌, subst, subst₂, arith}
+use Rattle.std.proofs.Common.{List, sym, ap, ◌∙◌, subst, subst₂, arith}
 use Rattle.vg_meta.specs.Roomy.{table_alone}
 use Rattle.vg_volumes.proofs.StoredLaws.{reads_then}
 use Rattle.vhd_chain.specs.Reading.{AllAreTrue}
@@ -8,7 +8,8 @@ use Rattle.sm_ready.specs.Ready.{IsReady}
 use Rattle.sm_standing.specs.Entries.{folding, head}
 use Rattle.sm_standing.specs.Opened.{undone}
 use Rattle.sm_standing.specs.Unfolded.{unfolded}
-use Rattle.sm_machine.specs.Operations.{Op}
+use Rattle.sm_log.specs.Logs.{Log}
+use Rattle.sm_machine.specs.Operations.{Idle, Op}
 use Rattle.sm_recover.specs.Backs.{CanGiveBack, rows_back}
 use Rattle.sm_recover.specs.Ending.{CanEnd, rows_ended, unleafed}
 use Rattle.sm_checks.specs.Links.{IsLinkRight}
@@ -30,6 +31,9 @@ returns-in_default-new-clause-reads g c = reads_then c.checked.ensures.reads c.m
 
 pub returns-in_default-new-2-clause-reads : goal.returns-in_default-new-2-clause-reads
 returns-in_default-new-2-clause-reads g c = reads_then c.checked.ensures.reads c.make_room.ensures.reads
+
+pub returns-in_default-new-3-clause-reads : goal.returns-in_default-new-3-clause-reads
+returns-in_default-new-3-clause-reads g c = reads_then c.checked.ensures.reads c.make_room.ensures.reads
 
 pub returns-clause-reads : goal.returns-clause-reads
 returns-clause-reads g c = reads_then c.checked.ensures.reads c.make_room.ensures.reads
@@ -74,9 +78,10 @@ returns-clause-orderly g c =
     let was = table_alone (g.S.Store.table c.args.store.now) in
     let th = is_then g.S.Store c.args.store.now c.in_ok-tree.tree.rows c.in_ok-tree.records k.checked k.rows k.each k.long k.passed in
     let is = back_is g.S.Store c.args.store.now c.in_ok-tree.tree.rows c.in_ok-tree.records k.checked k.rows k.each k.long k.passed (ap table_alone c.table.ensures.table ∙ c.make_room.ensures.reads.stays.table ∙ c.checked.ensures.reads.stays.table) (ap table_alone c.table-2.ensures.table ∙ c.make_room.ensures.reads.stays.table ∙ c.checked.ensures.reads.stays.table) c.take_name.ensures.rows c.give_back.ensures.rows in
-    subst₂ (λ (ys : List TreeRow) (o : Op). IsOrderly (g.S.Store.site c.args.store.now) (undone (unfolded (unleafed was))) (record { rows = ys; places = c.in_ok-tree.records; logs = []; attached = c.in-Ok-new.attached; op = o })) (sym is) (sym c.in-Ok-new-2.ensures)
+    subst₂ (λ (ys : List TreeRow) (o : Op). IsOrderly (g.S.Store.site c.args.store.now) (undone (unfolded (unleafed was))) (record { rows = ys; places = c.in_ok-tree.records; logs = c.in-Ok-new-3.logs; attached = c.in-Ok-new.attached; op = o })) (sym is) (sym c.in-Ok-new-2.ensures)
+    (subst (λ (ls : List Log). IsOrderly (g.S.Store.site c.args.store.now) (undone (unfolded (unleafed was))) (record { rows = rows_back (unleafed was) (rows_ended was c.in_ok-tree.tree.rows); places = c.in_ok-tree.records; logs = ls; attached = c.in-Ok-new.attached; op = Idle })) (sym c.in-Ok-new-3.ensures)
     (opened_with g.S.Store c.args.store.now (rows_back (unleafed was) (rows_ended was c.in_ok-tree.tree.rows)) c.in_ok-tree.records (undoable_unfolded th.checked)
-    (beside_bare g.S.Store c.args.store.now (rows_ended was c.in_ok-tree.tree.rows) c.in_ok-tree.records th.checked th.are th.each k.long th.pass) k.long c.in-Ok-new.attached c.in-Ok-new.ensures.disks c.in-Ok-new.ensures.counts)
+    (beside_bare g.S.Store c.args.store.now (rows_ended was c.in_ok-tree.tree.rows) c.in_ok-tree.records th.checked th.are th.each k.long th.pass) k.long c.in-Ok-new.attached c.in-Ok-new.ensures.disks c.in-Ok-new.ensures.counts))
 
 pub returns-clause-ready : goal.returns-clause-ready
 returns-clause-ready g c = λ told settled well.
@@ -84,12 +89,13 @@ returns-clause-ready g c = λ told settled well.
     let was = table_alone (g.S.Store.table c.args.store.now) in
     let th = is_then g.S.Store c.args.store.now c.in_ok-tree.tree.rows c.in_ok-tree.records k.checked k.rows k.each k.long k.passed in
     let is = back_is g.S.Store c.args.store.now c.in_ok-tree.tree.rows c.in_ok-tree.records k.checked k.rows k.each k.long k.passed (ap table_alone c.table.ensures.table ∙ c.make_room.ensures.reads.stays.table ∙ c.checked.ensures.reads.stays.table) (ap table_alone c.table-2.ensures.table ∙ c.make_room.ensures.reads.stays.table ∙ c.checked.ensures.reads.stays.table) c.take_name.ensures.rows c.give_back.ensures.rows in
-    subst₂ (λ (ys : List TreeRow) (o : Op). IsReady (g.S.Store.site c.args.store.now) (undone (unfolded (unleafed was))) (g.S.Store.area c.args.store.now) (record { rows = ys; places = c.in_ok-tree.records; logs = []; attached = c.in-Ok-new.attached; op = o })) (sym is)
+    subst₂ (λ (ys : List TreeRow) (o : Op). IsReady (g.S.Store.site c.args.store.now) (undone (unfolded (unleafed was))) (g.S.Store.area c.args.store.now) (record { rows = ys; places = c.in_ok-tree.records; logs = c.in-Ok-new-3.logs; attached = c.in-Ok-new.attached; op = o })) (sym is)
     (sym c.in-Ok-new-2.ensures)
+    (subst (λ (ls : List Log). IsReady (g.S.Store.site c.args.store.now) (undone (unfolded (unleafed was))) (g.S.Store.area c.args.store.now) (record { rows = rows_back (unleafed was) (rows_ended was c.in_ok-tree.tree.rows); places = c.in_ok-tree.records; logs = ls; attached = c.in-Ok-new.attached; op = Idle })) (sym c.in-Ok-new-3.ensures)
     (opened_ready g.S.Store c.args.store.now (rows_back (unleafed was) (rows_ended was c.in_ok-tree.tree.rows)) c.in_ok-tree.records (undoable_unfolded th.checked)
     (beside_bare g.S.Store c.args.store.now (rows_ended was c.in_ok-tree.tree.rows) c.in_ok-tree.records th.checked th.are th.each k.long th.pass) told settled
     (holding_then g.S.Store c.args.store.now c.in_ok-tree.tree.rows c.in_ok-tree.records k.checked k.rows k.each k.long k.passed (k.sound told) well) c.in-Ok-new.attached
-    (agrees_then g.S.Store c.args.store.now c.in_ok-tree.tree.rows c.in_ok-tree.records k.checked k.rows k.each k.long k.passed (k.agrees told)))
+    (agrees_then g.S.Store c.args.store.now c.in_ok-tree.tree.rows c.in_ok-tree.records k.checked k.rows k.each k.long k.passed (k.agrees told))))
 
 pub returns-clause-linking : goal.returns-clause-linking
 returns-clause-linking g c =

@@ -1,4 +1,5 @@
 use Rattle.std.proofs.Common.{◌≤◌, ap, sym, subst, ◌∙◌}
+use Rattle.common_laws.specs.Lists.{In}
 use Rattle.sm_disk.proofs.HeldLaws.{Keeps-then}
 use Rattle.vg_meta.specs.Roomy.{table_alone}
 use Rattle.vg_volumes.specs.Stored.{stored}
@@ -125,9 +126,11 @@ returns-clause-opened g c = λ told h.
     let rest = l.rest told (link_begun r u.site u.undone c.requires.endable told (u.keeps told) h.settled (u.settled told) c.args.memory.now h.sound h.well h.ready) in
     let begun = start r u.site u.undone c.requires.endable c.link_up.ensures.site l.unfolded c.link_up.new.memory l.orderly rest l.at_ease in
     let q : IsAtEase c.repair.new.memory = record { idle = c.repair.ensures.operation ∙ l.at_ease.idle; unattached = ap (λ a. a.disks) c.repair.ensures.attached ∙ l.at_ease.unattached } in
+    let linked = c.link_up.ensures.logs ∙ c.requires.untracked in
+    let repaired = c.repair.ensures.logs ∙ linked in
     shape_opened (stored g.S.Store c.link_up.new.store) (known c.link_up.new.memory) begun (stored g.S.Store c.repair.new.store) (known c.repair.new.memory)
-    (e.rest told) e.site e.cleaned e.tidy.none_new q.unattached q.idle (λ v i. absurd i)
-    ∙ opened_behind r u.site u.undone c.requires.endable c.link_up.ensures.site l.unfolded c.args.memory.now c.link_up.new.memory h.sound h.settled c.requires.orderly h.ready c.requires.at_ease (λ v i. absurd i) begun l.at_ease.unattached (λ v i. absurd i) c.requires.linking l.shape
+    (e.rest told) e.site e.cleaned e.tidy.none_new q.unattached q.idle (λ l i. absurd (subst (In l) repaired i))
+    ∙ opened_behind r u.site u.undone c.requires.endable c.link_up.ensures.site l.unfolded c.args.memory.now c.link_up.new.memory h.sound h.settled c.requires.orderly h.ready c.requires.at_ease (λ l i. absurd (subst (In l) c.requires.untracked i)) begun l.at_ease.unattached (λ l i. absurd (subst (In l) linked i)) c.requires.linking l.shape
 
 pub returns-clause-crash : goal.returns-clause-crash
 returns-clause-crash g c = λ told t image leaves h.
