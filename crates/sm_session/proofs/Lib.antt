@@ -1,2 +1,5 @@
 pub mod CarryLaws
 pub mod CollectLaws
+pub mod GoodLaws
+pub mod LoggedLaws
+pub mod UnloggedLaws

@@ -1,5 +1,7 @@
 -- The commands of guests, what a command puts, and how many commits it makes at most.
-use Rattle.std.specs.Prelude.{ℕ, ◌*◌, Bool, true, false, replicate, ⊤}
+use Rattle.std.specs.Prelude.{ℕ, ◌*◌, Bool, true, false, List, replicate, ⊤}
+use Rattle.sm_base.specs.declared.names.Name.TheVariants.{Cbt}
+use Rattle.vg_volumes.specs.Stored.{WorksOn}
 use Rattle.vg_volumes.specs.declared.stores.Store.{Ghosts}
 use Rattle.sm_machine.specs.declared.commands.Command.{Command}
 use Rattle.sm_machine.specs.declared.commands.Command.TheVariants.{Create, Delete, Attach, Detach, Snapshot, Clone, Resize, Write, Fill, Read, Flush, Gc}
@@ -22,6 +24,16 @@ WritesOnlyIts g m (Write u sector bytes) old new = WritesOnly g m u sector bytes
 WritesOnlyIts g m (Fill u sector count byte) old new = WritesOnly g m u sector (replicate (512 * count) byte) old new
 WritesOnlyIts g m _ old new = ⊤
 
+-- a command of a guest behind marks in its disk's log: the log's volume alone is worked on first, and then as `WritesOnlyIts` says
+abbrev pub MarksAndWrites : {S : Type 0} → Ghosts S → Memory → List ℕ → Command → S → S → Type 0
+MarksAndWrites {S} g m u c old new = (mid : S) × WorksOn g (Cbt u) old mid × WritesOnlyIts g m c mid new
+
+-- a guest's write or fill marks first in its disk's log, and then works as `WritesOnlyIts` says; of another command this says nothing
+abbrev pub MarksAndWritesIts : {S : Type 0} → Ghosts S → Memory → Command → S → S → Type 0
+MarksAndWritesIts g m (Write u sector bytes) old new = MarksAndWrites g m u (Write u sector bytes) old new
+MarksAndWritesIts g m (Fill u sector count byte) old new = MarksAndWrites g m u (Fill u sector count byte) old new
+MarksAndWritesIts g m _ old new = ⊤
+
 -- a new disk is made and then unmarked; one that goes is removed; the image of one that is attached, or that gets larger while it is
 -- attached, may get extents under an entry; eight make a disk of another; and a step of the collector may enlarge a volume and put
 -- its own entry, or put a parent in its leaf's place. Where a leaf is being folded, a command on its disk gives that up first, by one more. Nothing else commits
@@ -35,3 +47,9 @@ most_commits (Clone u twin) = 9
 most_commits (Resize u size) = 4
 most_commits Gc = 5
 most_commits _ = 0
+
+-- for logs: one is removed with its disk, and two make a snapshot's
+unfoldable pub most_log_commits : Command → ℕ
+most_log_commits (Delete u) = 1
+most_log_commits (Snapshot u twin) = 2
+most_log_commits _ = 0

@@ -40,6 +40,7 @@ pub(crate) fn serve<S: Store>(
     ensures cause { Counts S.Store result store.old store.new }
     ensures pool { pool.new ≡ pool.old }
     ensures session_still { OnOk result (IsBetweenSteps S.Store store.new memory.new) }
+    ensures logs { memory.new.logs ≡ memory.old.logs }
     ensures refused { IfOk result (λ r. is_accepted r ≡ false → (t : VolumeTable) (image : ℕ → List ℕ) → S.leaves store.new t image → S.leaves store.old t image) }
     ensures spared { IfOk result (λ r. r ≡ No NoMemory → may_want_memory (store_shape S.Store store.old memory.old) command.now ≡ true) }
     ensures poor { IfOk result (λ r. (x : Refusal) → r ≡ No x → x ≡ NoMemory) }

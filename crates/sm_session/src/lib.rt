@@ -2,7 +2,7 @@
 //! it.
 //!
 //! **What is kept here.** A [`Session`] has a store of volumes and what is in memory of it: the images, the places of the
-//! records, the attachments and what the collector does; a buffer of a block and its bitmap; a number for each image that there
+//! records, the logs of tracked disks (there are none yet), the attachments and what the collector does; a buffer of a block and its bitmap; a number for each image that there
 //! may be, in which its children are counted; and whether a step has failed.
 //! Sizes in commands and replies are in bytes, those in the table in extents, places in sectors.
 //!
@@ -41,5 +41,6 @@ mod guests;
 mod sessions;
 mod sizes;
 mod taking;
+mod tracking;
 
 pub use sessions::Session;

@@ -1,6 +1,6 @@
 //! A repository that is open, and its steps.
 
-ghost use Rattle.std.specs.Prelude.{◌≡◌, ◌≢◌, ◌≤◌, ◌<◌, ◌+◌, ◌*◌, ◌⊎◌, None, false, IfOk, IfErr, length};
+ghost use Rattle.std.specs.Prelude.{◌≡◌, ◌≢◌, ◌≤◌, ◌<◌, ◌+◌, ◌*◌, ◌⊎◌, [], None, false, IfOk, IfErr, length};
 ghost use Rattle.std.proofs.Props.{props};
 ghost use Rattle.sm_base.specs.declared.faults.OpenFault.TheVariants.{Device};
 ghost use Rattle.sm_disk.specs.Held.{IsSettled, Keeps};
@@ -12,6 +12,8 @@ ghost use Rattle.sm_checks.specs.Openable.{IsOpeningStopped};
 ghost use Rattle.sm_recover.specs.Repairs.{UnlessDeviceFailed};
 ghost use Rattle.sm_recover.specs.Stores.{MayBeRepairedFrom};
 ghost use Rattle.vg_volumes.specs.Stored.{OnlyReads, Leaves};
+ghost use Rattle.sm_machine.specs.Tracking.{AreGoodLogs};
+ghost use Rattle.sm_ready.specs.Does.{store_shape};
 ghost use Rattle.sm_ready.specs.Framing.{IsBetweenSteps};
 ghost use Rattle.sm_ready.specs.Known.{known, shape_in};
 ghost use Rattle.sm_ready.specs.Proper.{IsBetweenSteps-prop};
@@ -49,6 +51,8 @@ pub struct Session<S: Store> {
     now: u32,
     // While no step has failed, store and memory are as they are between two steps.
     ghost between: { broken ≡ false → IsBetweenSteps S.Store store memory } by { Prim.hlevel (props, IsBetweenSteps-prop) },
+    // No disk is tracked.
+    ghost untracked: { memory.logs ≡ [] } by { Prim.hlevel props },
     // A buffer is free, and the children of as many images can be counted as there may be.
     ghost buffer: { (0 < pool.free) × (512 * (1 + (S.site store).geometry.block) ≤ pool.bytes) },
     ghost child_counts: { image_limit ≤ length children },
@@ -82,6 +86,7 @@ impl<S: Store> Session<S> {
         ensures ease { IfOk result (λ s. IsAtEase s.memory) }
         ensures sound { IfOk result (λ s. S.told → first_fault (store_content S.Store store) ≡ None) }
         ensures ready { IfOk result (λ s. S.told → HoldsWell (store_content S.Store store) → IsReadyStore S.Store s.store s.memory) }
+        ensures good_logs { IfOk result (λ s. ∥ AreGoodLogs (store_shape S.Store s.store s.memory) ∥₁) }
         ensures settled { IfOk result (λ s. S.told → IsSettled (S.area s.store)) }
         ensures disks { IfOk result (λ s. S.told → HoldsWell (store_content S.Store store) → disks (store_content S.Store s.store)
             ≡ disks (store_content S.Store store)) }
@@ -161,6 +166,7 @@ impl<S: Store> Steps for Session<S> {
     ghost use Rattle.sm_ready.specs.Sessions.{IsReadyStore, KeepsAll, store_state};
     ghost use Rattle.sm_ready.specs.Stores.{MayShow, StoreLeaves};
     ghost use Rattle.sm_ready.specs.Does.{store_shape};
+    ghost use Rattle.sm_machine.specs.Tracking.{AreGoodLogs};
 
     ghost told = { S.told };
 
@@ -168,7 +174,7 @@ impl<S: Store> Steps for Session<S> {
 
     ghost shape = { λ s. store_shape S.Store s.store s.memory };
 
-    ghost ready = { λ s. (s.broken ≡ false) × IsReadyStore S.Store s.store s.memory };
+    ghost ready = { λ s. (s.broken ≡ false) × IsReadyStore S.Store s.store s.memory × ∥ AreGoodLogs (store_shape S.Store s.store s.memory) ∥₁ };
 
     ghost kept = { λ s. KeepsAll (S.site s.store) (StoreLeaves S.Store s.store) };
 

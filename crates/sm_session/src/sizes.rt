@@ -36,6 +36,7 @@ pub(crate) fn raise<S: Store>(
     ensures step { StepsOn S.Store 4 store.old store.new }
     ensures cause { Counts S.Store result store.old store.new }
     ensures session_still { OnOk result (IsBetweenSteps S.Store store.new memory.new) }
+    ensures logs { memory.new.logs ≡ memory.old.logs }
     ensures refused { IfOk result (λ r. is_accepted r ≡ false → (t : VolumeTable) (image : ℕ → List ℕ) → S.leaves store.new t image → S.leaves store.old t image) }
     ensures spared { IfOk result (λ r. r ≡ No NoMemory → may_want_memory (store_shape S.Store store.old memory.old) (command.Resize disk.now size) ≡ true) }
     ensures poor { IfOk result (λ r. (x : Refusal) → r ≡ No x → x ≡ NoMemory) }

@@ -20,17 +20,20 @@ ghost use Rattle.sm_ready.specs.Framing.{IsBetweenSteps, StepsOn};
 ghost use Rattle.sm_ready.specs.Sessions.{IsReadyStore};
 ghost use Rattle.sm_ready.specs.Taken.{StoreTakes};
 ghost use Rattle.sm_run.specs.Runs.{may_want_memory};
-ghost use Rattle.sm_session.specs.Carrying.{WritesOnlyIts, most_commits};
+ghost use Rattle.sm_session.specs.Carrying.{MarksAndWritesIts, WritesOnlyIts, most_commits, most_log_commits};
+ghost use Rattle.sm_session.specs.Stepped.{StoreSteps};
+ghost use Rattle.sm_machine.specs.Tracking.{AreGoodLogs, logs_after};
 
 use crate::collecting::gc;
 use crate::forks::derive;
 use crate::guests::serve;
 use crate::sizes::raise;
+use crate::tracking::{mark, untrack};
 use cmd_change::{delete, label};
 use cmd_create::{create, create_vhd};
 use cmd_list::{list, stat};
 use gc_plan::ChildCounts;
-use sm_base::Failed;
+use sm_base::{Failed, SECTOR};
 use sm_machine::{Command, Reply};
 use sm_pool::Pool;
 use sm_ready::Memory;
@@ -57,6 +60,7 @@ fn carry_out<S: Store>(
     ensures pool { pool.new ≡ pool.old }
     ensures children { length children.new ≡ length children.old }
     ensures session_still { OnOk result (IsBetweenSteps S.Store store.new memory.new) }
+    ensures logs { memory.new.logs ≡ memory.old.logs }
     ensures refused { IfOk result (λ r. is_accepted r ≡ false → (t : VolumeTable) (image : ℕ → List ℕ) → S.leaves store.new t image → S.leaves store.old t image) }
     ensures spared { IfOk result (λ r. r ≡ No NoMemory → may_want_memory (store_shape S.Store store.old memory.old) command.now ≡ true) }
     ensures poor { IfOk result (λ r. (x : Refusal) → r ≡ No x → x ≡ NoMemory) }
@@ -104,6 +108,68 @@ fn carry_out<S: Store>(
     }
 }
 
+/// Carries out a command that no cause refuses, with what it does to the log of its disk: pieces are marked before they are written, and a deleted disk's
+/// log goes behind the disk. `now` is the stamp of an image that it makes.
+fn carry_tracked<S: Store>(
+    alloc: Global,
+    store: &mut S,
+    memory: &mut Memory,
+    pool: &mut Pool,
+    children: &mut ChildCounts,
+    command: &Command,
+    now: u32,
+) -> Result<Reply, Failed>
+    requires session { IsBetweenSteps S.Store store.old memory.old }
+    requires buffer { (0 < pool.old.free) × (512 * (1 + (S.site store.old).geometry.block) ≤ pool.old.bytes) }
+    requires children { image_limit ≤ length children.old }
+    requires allowed { IsAllowed S.Store command.now store.old memory.old }
+    ensures step { StepsOn S.Store (most_commits command.now + most_log_commits command.now) store.old store.new }
+    ensures cause { Counts S.Store result store.old store.new }
+    ensures pool { pool.new ≡ pool.old }
+    ensures children { length children.new ≡ length children.old }
+    ensures session_still { OnOk result (IsBetweenSteps S.Store store.new memory.new) }
+    ensures logs { (memory.new.logs ≡ memory.old.logs) ⊎ (memory.new.logs ≡ logs_after (store_shape S.Store store.old memory.old) command.now) }
+    ensures refused { IfOk result (λ r. is_accepted r ≡ false → (t : VolumeTable) (image : ℕ → List ℕ) → S.leaves store.new t image → S.leaves store.old t image) }
+    ensures spared { IfOk result (λ r. r ≡ No NoMemory → may_want_memory (store_shape S.Store store.old memory.old) command.now ≡ true) }
+    ensures poor { IfOk result (λ r. (x : Refusal) → r ≡ No x → x ≡ NoMemory) }
+    ensures untouched { IfOk result (λ r. is_accepted r ≡ false → OnlyReads S.Store store.old store.new × (memory.new ≡ memory.old)) }
+    ensures least { (u : List ℕ) (size : ℕ) (label : List ℕ) → command.now ≡ Create u size true label → IfOk result (λ r. is_accepted r ≡ true
+        → IsOnLeast (S.site store.old) (table_alone (S.table store.old)) u (extents_for (S.site store.old).geometry.extent size) (table_alone (S.table store.new))) }
+    ensures lowered_gc { command.now ≡ Gc → IfOk result (λ r. is_accepted r ≡ true
+        → is_working (next_step (store_shape S.Store store.old memory.old)) ≡ true
+        → ∥ IsLess (debt (store_shape S.Store store.new memory.new)) (debt (store_shape S.Store store.old memory.old)) ∥₁) }
+    ensures writes { MarksAndWritesIts S.Store memory.old command.now store.old store.new }
+    ensures taken { S.told → IsReadyStore S.Store store.old memory.old → ∥ AreGoodLogs (store_shape S.Store store.old memory.old) ∥₁
+        → StoreSteps S.Store command.now store.old memory.old store.new memory.new result }
+{
+    match command {
+        Command::Write {
+            disk,
+            sector,
+            bytes,
+        } => {
+            let count = bytes.bytes.len() as u64 / SECTOR;
+            mark(store, memory, disk, *sector, count)?;
+            carry_out(alloc, store, memory, pool, children, command, now)
+        }
+        Command::Fill {
+            disk,
+            sector,
+            count,
+            ..
+        } => {
+            mark(store, memory, disk, *sector, *count)?;
+            carry_out(alloc, store, memory, pool, children, command, now)
+        }
+        Command::Delete { disk } => {
+            let reply = carry_out(alloc, store, memory, pool, children, command, now)?;
+            untrack(store, memory, disk)?;
+            Ok(reply)
+        }
+        _ => carry_out(alloc, store, memory, pool, children, command, now),
+    }
+}
+
 /// Takes a command. One that a cause refuses is answered with the first of them. `now` is the stamp of an image that it makes, in
 /// seconds since 2000-01-01 00:00 UTC.
 pub fn take<S: Store>(
@@ -118,11 +184,12 @@ pub fn take<S: Store>(
     requires session { IsBetweenSteps S.Store store.old memory.old }
     requires buffer { (0 < pool.old.free) × (512 * (1 + (S.site store.old).geometry.block) ≤ pool.old.bytes) }
     requires children { image_limit ≤ length children.old }
-    ensures step { StepsOn S.Store (most_commits command.now) store.old store.new }
+    ensures step { StepsOn S.Store (most_commits command.now + most_log_commits command.now) store.old store.new }
     ensures cause { Counts S.Store result store.old store.new }
     ensures pool { pool.new ≡ pool.old }
     ensures children { length children.new ≡ length children.old }
     ensures session_still { OnOk result (IsBetweenSteps S.Store store.new memory.new) }
+    ensures logs { (memory.new.logs ≡ memory.old.logs) ⊎ (memory.new.logs ≡ logs_after (store_shape S.Store store.old memory.old) command.now) }
     ensures refused { IfOk result (λ r. is_accepted r ≡ false → (t : VolumeTable) (image : ℕ → List ℕ) → S.leaves store.new t image → S.leaves store.old t image) }
     ensures spared { IfOk result (λ r. r ≡ No NoMemory → may_want_memory (store_shape S.Store store.old memory.old) command.now ≡ true) }
     ensures untouched { IfOk result (λ r. is_accepted r ≡ false → OnlyReads S.Store store.old store.new × (memory.new ≡ memory.old)) }
@@ -133,9 +200,9 @@ pub fn take<S: Store>(
     ensures lowered_gc { command.now ≡ Gc → IfOk result (λ r. is_accepted r ≡ true
         → is_working (next_step (store_shape S.Store store.old memory.old)) ≡ true
         → ∥ IsLess (debt (store_shape S.Store store.new memory.new)) (debt (store_shape S.Store store.old memory.old)) ∥₁) }
-    ensures writes { WritesOnlyIts S.Store memory.old command.now store.old store.new }
-    ensures taken { S.told → IsReadyStore S.Store store.old memory.old
-        → StoreTakes S.Store command.now store.old memory.old store.new memory.new result }
+    ensures writes { MarksAndWritesIts S.Store memory.old command.now store.old store.new }
+    ensures taken { S.told → IsReadyStore S.Store store.old memory.old → ∥ AreGoodLogs (store_shape S.Store store.old memory.old) ∥₁
+        → StoreSteps S.Store command.now store.old memory.old store.new memory.new result }
 {
     let geometry = store.geometry();
     let extents = store.extents();
@@ -143,5 +210,5 @@ pub fn take<S: Store>(
     if let Some(refusal) = refusal {
         return Ok(Reply::No(refusal));
     }
-    carry_out(alloc, store, memory, pool, children, command, now)
+    carry_tracked(alloc, store, memory, pool, children, command, now)
 }
