@@ -17,8 +17,10 @@ use Rattle.cmd_list.proofs.ListLaws.{step_after}
 use Rattle.cmd_list.proofs.StatSteps.{stat_after}
 use Rattle.sm_machine.specs.Disks.{Disk}
 use Rattle.sm_machine.specs.Shapes.{Shape, new_shape}
-use Rattle.sm_machine.specs.declared.commands.Command.TheVariants.{Stat as StatImages}
-use Rattle.sm_machine.specs.Steps.{State, step}
+use Rattle.sm_machine.specs.declared.commands.Command.TheVariants.{List as ListDisks, Stat as StatImages}
+use Rattle.sm_machine.specs.Steps.{Outcome, State, step}
+use Rattle.sm_machine.specs.Tracking.{log_commits, logs_after, tracked_step}
+use Rattle.sm_machine.proofs.Tracked.{unlogged_is_step}
 use Rattle.sm_script.specs.Pieces.{Writes}
 use Rattle.sm_trial.specs.declared.endings.Ending.{Ending as Counted}
 use Rattle.sm_trial.specs.declared.tallies.Tally.{Tally as Sums}
@@ -90,9 +92,20 @@ session_said size h had got start number text Source says tried kept = absurd sa
 session_said size h had got start number text TooLong says tried kept = absurd says
 session_said size h had got start number text Denied says tried kept = absurd says
 
+-- it does nothing to logs
+list_unlogged : (σ : State) → tracked_step σ ListDisks ≡ step σ ListDisks
+unfolding logs_after log_commits
+list_unlogged σ = unlogged_is_step σ ListDisks refl refl
+
+stat_unlogged : (σ : State) → tracked_step σ StatImages ≡ step σ StatImages
+unfolding logs_after log_commits
+stat_unlogged σ = unlogged_is_step σ StatImages refl refl
+
 -- counting changes nothing
 pub counted_still : (σ σ' : State) (e : Counted) → σ.shape.sequence < 2 ^ 48 → HasCounted σ σ' e → σ' ≡ σ
-counted_still σ σ' e few c = c.state ∙ ap (λ (x : State). (step x StatImages).after) (step_after σ few) ∙ stat_after σ few
+counted_still σ σ' e few c =
+    c.state ∙ ap (λ (x : Outcome). (tracked_step x.after StatImages).after) (list_unlogged σ) ∙ ap (λ (x : Outcome). x.after) (stat_unlogged ((step σ ListDisks).after))
+    ∙ ap (λ (x : State). (step x StatImages).after) (step_after σ few) ∙ stat_after σ few
 
 -- and what was counted is what the summary says
 pub counted_words : (number : ℕ) (t : Sums) (σ σ' : State) (e : Counted) → HasCounted σ σ' e → line_of (summary_words number t e.disks e.images e.free) ≡ summary number t σ

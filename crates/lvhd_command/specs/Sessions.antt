@@ -5,6 +5,8 @@ use Rattle.vg_meta.specs.Tables.{VolumeTable}
 use Rattle.vg_volumes.specs.Sites.{Site}
 use Rattle.vg_volumes.specs.declared.stores.Store.{Ghosts}
 use Rattle.sm_machine.specs.Steps.{State}
+use Rattle.sm_machine.specs.Tracking.{AreGoodLogs}
+use Rattle.sm_ready.specs.Does.{store_shape}
 use Rattle.sm_ready.specs.Sessions.{IsReadyStore, KeepsAll, store_state}
 use Rattle.sm_ready.specs.Stores.{Leaving, StoreLeaves, store_content}
 use Rattle.sm_session.specs.declared.sessions.Session.{Session}
@@ -26,9 +28,10 @@ content_read {S} {g} s = store_content g s.store
 abbrev pub state_of : {S : Type 0} {g : Ghosts S} → Session S g → State
 state_of {S} {g} s = store_state g s.store s.memory
 
--- what a read of a session's store gives of images and records is what is in memory of it
+-- what a read of a session's store gives of images and records is what is in memory of it, and the logs in memory are those of disks, as they
+-- should be
 abbrev pub IsReadySession : {S : Type 0} {g : Ghosts S} → Session S g → Type 0
-IsReadySession {S} {g} s = IsReadyStore g s.store s.memory
+IsReadySession {S} {g} s = IsReadyStore g s.store s.memory × ∥ AreGoodLogs (store_shape g s.store s.memory) ∥₁
 
 -- what a stop may leave of a session's store
 abbrev pub session_leaves : {S : Type 0} {g : Ghosts S} → Session S g → Leaving

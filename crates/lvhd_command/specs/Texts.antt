@@ -26,6 +26,7 @@ place_words (at.Image name) = codes "image" ∷ spelling name ∷ []
 place_words (at.Tree name) = codes "tree" ∷ spelling name ∷ []
 place_words (at.Record index) = codes "record" ∷ decimal index ∷ []
 place_words (at.Disk uuid) = codes "disk" ∷ uuid_text uuid ∷ []
+place_words (at.Log name) = codes "log" ∷ spelling name ∷ []
 
 -- why a repository is not opened; of a fault of the device and of want of memory nothing is printed
 unfoldable pub fault_words : OpenFault → List (List ℕ)

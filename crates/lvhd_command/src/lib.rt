@@ -48,7 +48,7 @@
 //! whose opening may have made its repairs by then, in an import, and in a trial, which it may end at any line.
 //!
 //! **What it costs.** `run` takes one line buffer, then the memory of an opening, and what a step takes; the script is read
-//! byte by byte. `export` takes the memory of an opening, and that of one block and its bitmap; `import` that of an opening, of the table of the new image and
+//! in pieces that end at a newline. `export` takes the memory of an opening, and that of one block and its bitmap; `import` that of an opening, of the table of the new image and
 //! of the entries of the file's table, and a page.
 #![tactic(auto)]
 

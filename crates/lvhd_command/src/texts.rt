@@ -120,6 +120,7 @@ fn print_damaged<K: Sink>(sink: &mut K, place: &Place) -> Result<(), Failed>
         Place::Tree { name } => print_part(sink, Word::text(b"tree"), Word::name(name)),
         Place::Record { index } => print_part(sink, Word::text(b"record"), Word::count(*index)),
         Place::Disk { uuid } => print_part(sink, Word::text(b"disk"), Word::uuid(uuid)),
+        Place::Log { name } => print_part(sink, Word::text(b"log"), Word::name(name)),
     }
 }
 

@@ -31,4 +31,4 @@ pub returns-clause-sent : goal.returns-clause-sent
 returns-clause-sent g c = λ told ready.
     let by_store = rw c.into_parts-store.ensures.store at c.send_or_refuse-status.ensures.sent in
     let sent = rw c.into_parts-store.ensures.memory at by_store in
-    sent told ready
+    sent told ready.0

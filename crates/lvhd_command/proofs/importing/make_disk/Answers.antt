@@ -63,7 +63,7 @@ returns-clause-kept g c = λ told ready.
     let stands = rw c.into_disk-disk.ensures.disk at c.into_disk-disk.ensures.stands in
     let by_store = rw c.into_parts-store.ensures.store at c.import-answer.ensures.done in
     let by_memory = rw c.into_parts-store.ensures.memory at by_store in
-    let i = by_memory told ready in
+    let i = by_memory told ready.0 in
     subst (λ d. IsKeptDevice (g.D.Disk.size d) (g.D.Disk.held d)) (sym c.into_disk-disk.ensures.disk)
     (kept_import (g.D.Disk.size n) (g.D.Disk.size n) _ (site_of c.args.session) (g.D.Disk.held n) (g.D.Disk.held n) _ _ _ i.ends refl site_is (Keeps-none (g.D.Disk.held n)) (stands told) (λ t image l. inl l) i.done.crash)
 
@@ -88,7 +88,7 @@ returns-clause-left g c = λ told ready begins.
     let stands = rw c.into_disk-disk.ensures.disk at c.into_disk-disk.ensures.stands in
     let by_store = rw c.into_parts-store.ensures.store at c.import-answer.ensures.done in
     let by_memory = rw c.into_parts-store.ensures.memory at by_store in
-    let i = by_memory told ready in
+    let i = by_memory told ready.0 in
     let shows = shows_import size (g.D.Disk.size n) _ (site_of s) (g.D.Disk.held n) (g.D.Disk.held n) _ (session_leaves s) σ.disks i.ends (ap (λ (x : Site). x.sectors) site_is) site_is (Keeps-none (g.D.Disk.held n)) (stands told)
     (λ t image l. inl l) i.done.crash begins in
     let a_store = rw c.into_parts-store.ensures.store at c.import-answer.ensures.answered in
@@ -154,7 +154,7 @@ returns-in-Ok-clause-kept g c = λ told ready.
     let is_size = rw c.into_disk-disk.ensures.disk at c.settle.ensures.size in
     let by_store = rw c.into_parts-store.ensures.store at c.import-answer.ensures.done in
     let by_memory = rw c.into_parts-store.ensures.memory at by_store in
-    let i = by_memory told ready in
+    let i = by_memory told ready.0 in
     kept_import (g.D.Disk.size c.settle.result.1) (g.D.Disk.size n) _ (site_of c.args.session) (g.D.Disk.held n) (g.D.Disk.held c.settle.result.1) _ _ _ i.ends (sym is_size) site_is (keeps told) (stands told) (λ t image l. inl l) i.done.crash
 
 pub returns-in-Ok-clause-told : goal.returns-in-Ok-clause-told
@@ -179,7 +179,7 @@ returns-in-Ok-clause-left g c = λ told ready begins.
     let keeps = rw c.into_disk-disk.ensures.disk at c.settle.ensures.keeps in
     let by_store = rw c.into_parts-store.ensures.store at c.import-answer.ensures.done in
     let by_memory = rw c.into_parts-store.ensures.memory at by_store in
-    let i = by_memory told ready in
+    let i = by_memory told ready.0 in
     let still = rw c.in-Ok.is at c.import-answer.ensures.session_still in
     let spent = rw c.in-Ok.is at c.import-answer.ensures.spent in
     let with = i.ends_with in

@@ -55,8 +55,10 @@ returns-in-Ok-begin-clause-opened g c = λ told holding.
 pub returns-in-Ok-begin-clause-ready : goal.returns-in-Ok-begin-clause-ready
 returns-in-Ok-begin-clause-ready g c = λ told holding.
     let e = c.in-Ok.ensures in
-    let group = c.in-Ok.cache.inner in
-    c.in-Ok-begin.ensures.ready told (well_entry (g.D.Disk.size c.args.disk) (g.D.Disk.held c.args.disk) (g.D.Disk.held group.disk) (site_on group.label (g.D.Disk.size group.disk)) (pointer group.header) (table_alone group.table) (e.area told) (e.stands told) holding)
+    let group = c.in-Ok.cache.inner in (
+      c.in-Ok-begin.ensures.ready told (well_entry (g.D.Disk.size c.args.disk) (g.D.Disk.held c.args.disk) (g.D.Disk.held group.disk) (site_on group.label (g.D.Disk.size group.disk)) (pointer group.header) (table_alone group.table) (e.area told) (e.stands told) holding),
+      c.in-Ok-begin.ensures.good_logs,
+    )
 
 pub returns-in-Ok-begin-clause-kept : goal.returns-in-Ok-begin-clause-kept
 returns-in-Ok-begin-clause-kept g c = λ told holding.

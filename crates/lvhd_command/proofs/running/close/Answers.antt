@@ -26,7 +26,7 @@ returns-in-Ok-clause-shown g c = λ told whole ready settled.
     let size = g.D.Disk.size s.store.inner.disk in
     let site : Site = site_of s in
     let keeps = rw c.leave-disk.ensures.disk at c.sync.ensures.keeps in
-    shown_settled size site (table_of s) (g.D.Disk.held s.store.inner.disk) _ (known s.memory) s.store.inner.area ((s.between whole).orderly) ready (keeps told) settled
+    shown_settled size site (table_of s) (g.D.Disk.held s.store.inner.disk) _ (known s.memory) s.store.inner.area ((s.between whole).orderly) ready.0 (keeps told) settled
     (returns-in-Ok-clause-back g c told) (returns-in-Ok-clause-one g c told whole)
 
 pub returns-in-Err-clause-back : goal.returns-in-Err-clause-back
@@ -51,7 +51,7 @@ returns-in-Err-clause-shown g c = λ told whole ready settled.
     let size = g.D.Disk.size s.store.inner.disk in
     let site : Site = site_of s in
     let keeps = rw c.leave-disk.ensures.disk at c.sync.ensures.keeps in
-    shown_settled size site (table_of s) (g.D.Disk.held s.store.inner.disk) _ (known s.memory) s.store.inner.area ((s.between whole).orderly) ready (keeps told) settled
+    shown_settled size site (table_of s) (g.D.Disk.held s.store.inner.disk) _ (known s.memory) s.store.inner.area ((s.between whole).orderly) ready.0 (keeps told) settled
     (returns-in-Err-clause-back g c told) (returns-in-Err-clause-one g c told whole)
 
 pub returns-in-Ok-clause-keeps : goal.returns-in-Ok-clause-keeps

@@ -18,7 +18,7 @@ returns-in-Err-clause-tried g c = λ told ready keeps.
     let m = c.try_lines.new.machine in
     let n = g.D.Disk.size m.store.inner.disk in
     let is_size : n ≡ g.D.Disk.size c.args.session.store.inner.disk = ap (λ (x : Site). x.sectors) c.try_lines.ensures.site in
-    let k = c.try_lines.ensures.kept told (whole, ready) keeps in
+    let k = c.try_lines.ensures.kept told (whole, ready.0, ready.1) keeps in
     call_failed _ _ _ _ _ c.in-Err.why c.status_of_call.result c.status_of_call.ensures
     (subst (λ d. IsKeptDevice (g.D.Disk.size c.args.session.store.inner.disk) (g.D.Disk.held d)) (sym c.leave.ensures.disk)
     (subst (λ z. IsKeptDevice z (g.D.Disk.held m.store.inner.disk)) is_size
@@ -30,8 +30,8 @@ returns-in-Err-count_all-clause-tried g c = λ told ready keeps.
     let m = c.count_all.new.machine in
     let n = g.D.Disk.size m.store.inner.disk in
     let is_size : n ≡ g.D.Disk.size c.args.session.store.inner.disk = ap (λ (x : Site). x.sectors) (c.count_all.ensures.site ∙ c.try_lines.ensures.site) in
-    let tried = c.in-Ok.ensures.tried told (whole, ready) keeps in
-    let k = c.count_all.ensures.kept told tried.1 (c.try_lines.ensures.kept told (whole, ready) keeps) in
+    let tried = c.in-Ok.ensures.tried told (whole, ready.0, ready.1) keeps in
+    let k = c.count_all.ensures.kept told tried.1 (c.try_lines.ensures.kept told (whole, ready.0, ready.1) keeps) in
     call_failed _ _ _ _ _ c.in-Err-count_all.why c.status_of_call-in-Err-count_all.result c.status_of_call-in-Err-count_all.ensures
     (subst (λ d. IsKeptDevice (g.D.Disk.size c.args.session.store.inner.disk) (g.D.Disk.held d)) (sym c.leave-in-Err-count_all.ensures.disk)
     (subst (λ z. IsKeptDevice z (g.D.Disk.held m.store.inner.disk)) is_size
@@ -46,8 +46,8 @@ returns-clause-tried g c = λ told ready keeps.
     let n = g.D.Disk.size m.store.inner.disk in
     let size = g.D.Disk.size c.args.session.store.inner.disk in
     let is_size : n ≡ size = ap (λ (x : Site). x.sectors) (c.count_all.ensures.site ∙ c.try_lines.ensures.site) in
-    let tried = c.in-Ok.ensures.tried told (whole, ready) keeps in
-    let k = c.count_all.ensures.kept told tried.1 (c.try_lines.ensures.kept told (whole, ready) keeps) in
+    let tried = c.in-Ok.ensures.tried told (whole, ready.0, ready.1) keeps in
+    let k = c.count_all.ensures.kept told tried.1 (c.try_lines.ensures.kept told (whole, ready.0, ready.1) keeps) in
     let counted = c.in-Ok-count_all.ensures.counted told tried.1 in
     let σ : State = state_of first in
     let last : State = state_of m in
@@ -60,7 +60,7 @@ returns-clause-tried g c = λ told ready keeps.
       text_is = counted_words c.args.number c.in-Ok.tally σ last c.in-Ok-count_all.ending counted.0;
       rests = subst (λ (x : State). RestsAs size (g.D.Disk.held c.say.result.1) x)
           (counted_still σ last c.in-Ok-count_all.ending few counted.0)
-          (subst (λ z. RestsAs z (g.D.Disk.held c.say.result.1) last) is_size (c.say.ensures.rests told counted.1.1 k other));
+          (subst (λ z. RestsAs z (g.D.Disk.held c.say.result.1) last) is_size (c.say.ensures.rests told (counted.1.1, counted.1.2) k other));
     })
     (subst (λ z. IsKeptDevice z (g.D.Disk.held c.say.result.1)) is_size (c.say.ensures.kept told k))
 
