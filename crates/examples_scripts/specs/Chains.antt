@@ -3,7 +3,8 @@ use Rattle.std.specs.Prelude.{ℕ, zero, suc, Bool, true, false, List, [], ◌�
 use Rattle.sm_base.specs.declared.operations.Plan.{Plan}
 use Rattle.sm_base.specs.declared.operations.Plan.TheVariants as plan
 use Rattle.sm_machine.specs.Collector.{next_step}
-use Rattle.sm_machine.specs.Steps.{State, step_line}
+use Rattle.sm_machine.specs.Steps.{State}
+use Rattle.sm_machine.specs.Tracking.{step_line}
 use Rattle.examples_scripts.specs.Scripts.{Script, line, new, after}
 
 -- a snapshot is made and deleted so many times

@@ -3,7 +3,8 @@
 use Rattle.std.specs.Prelude.{◌≡◌, ℕ, zero, suc, List, [], ◌∷◌, ◌++◌, map}
 use Rattle.sm_machine.specs.Operations as op
 use Rattle.sm_machine.specs.Replies.{printed}
-use Rattle.sm_machine.specs.Steps.{State, Outcome, step_line}
+use Rattle.sm_machine.specs.Steps.{State, Outcome}
+use Rattle.sm_machine.specs.Tracking.{step_line}
 
 -- a line and the text of its reply, without newlines
 pub record Line : Type 0 where

@@ -1,29 +1,9 @@
 -- A disk of two pieces is tracked: its second piece is written to between two snapshots of it.
-use Rattle.std.specs.Prelude.{ℕ, List, [], ◌∷◌, ◌++◌, Bool, false, true, Option, Some, None, codes, replicate}
+use Rattle.std.specs.Prelude.{ℕ, List, [], ◌∷◌, ◌++◌, Bool, false, true, codes, replicate}
 use Rattle.sm_log.specs.Logs.{Log}
-use Rattle.sm_machine.specs.declared.commands.Command.{Command}
-use Rattle.sm_machine.specs.Lines.{spelled}
-use Rattle.sm_machine.specs.Replies.{printed}
-use Rattle.sm_machine.specs.Steps.{State, Outcome, step_line}
-use Rattle.sm_machine.specs.Tracking.{begun, ended, tracked_step}
+use Rattle.sm_machine.specs.Steps.{State}
+use Rattle.sm_machine.specs.Tracking.{begun, ended}
 use Rattle.examples_scripts.specs.Scripts.{Script, line, new, after}
-
--- the step of a line, with what it does to logs
-abbrev pub tracked_or_bad : Option Command → State → List ℕ → Outcome
-tracked_or_bad None σ asked = step_line σ asked
-tracked_or_bad (Some c) σ asked = tracked_step σ c
-
-abbrev pub tracked_line : State → List ℕ → Outcome
-tracked_line σ asked = tracked_or_bad (spelled asked) σ asked
-
--- the replies to lines, and the state after them
-abbrev pub tracked_told : State → Script → List (List ℕ)
-tracked_told σ [] = []
-tracked_told σ (l ∷ lines) = let o : Outcome = tracked_line σ l.asked in printed o.reply ∷ tracked_told o.after lines
-
-abbrev pub tracked_after : State → Script → State
-tracked_after σ [] = σ
-tracked_after σ (l ∷ lines) = tracked_after ((tracked_line σ l.asked).after) lines
 
 -- the UUIDs of a disk and of its two snapshots
 abbrev pub tracked_disk : List ℕ
@@ -46,6 +26,7 @@ started = let σ : State = after new made in record { disks = σ.disks; shape = 
 abbrev pub until_written : Script
 until_written =
     line (codes "attach 11111111-1111-4111-8111-111111111111 rw") (codes "ok") ∷
+    line (codes "resize 11111111-1111-4111-8111-111111111111 262144") (codes "no Tracked") ∷
     line (codes "snapshot 11111111-1111-4111-8111-111111111111 22222222-2222-4222-8222-222222222222") (codes "ok") ∷
     line (codes "fill 11111111-1111-4111-8111-111111111111 128 1 aa") (codes "ok") ∷
     []
@@ -56,6 +37,15 @@ until_later =
     ++ line (codes "snapshot 11111111-1111-4111-8111-111111111111 33333333-3333-4333-8333-333333333333") (codes "ok")
     ∷ line (codes "stat") (codes "ok seq 28 free 13 op none images 5 VHD-11111111-1111-4111-8111-111111111111,v,VHD-6c766864-0000-8000-8000-000000000012,131072,0,10,1 VHD-22222222-2222-4222-8222-222222222222,v,VHD-6c766864-0000-8000-8000-000000000008,131072,0,1,0 VHD-33333333-3333-4333-8333-333333333333,v,VHD-6c766864-0000-8000-8000-000000000012,131072,0,1,0 VHD-6c766864-0000-8000-8000-000000000008,h,-,131072,0,10,1 VHD-6c766864-0000-8000-8000-000000000012,h,VHD-6c766864-0000-8000-8000-000000000008,131072,1,10,1")
     ∷ []
+
+-- eleven extents are free: those of the two images, but not of the snapshot's log
+abbrev pub no_log_room : Script
+no_log_room =
+    line (codes "attach 11111111-1111-4111-8111-111111111111 rw") (codes "ok") ∷
+    line (codes "create 44444444-4444-4444-8444-444444444444 262144 raw x") (codes "ok 262144") ∷
+    line (codes "create 55555555-5555-4555-8555-555555555555 163840 raw x") (codes "ok 163840") ∷
+    line (codes "snapshot 11111111-1111-4111-8111-111111111111 22222222-2222-4222-8222-222222222222") (codes "no NoSpace need 12 free 11") ∷
+    []
 
 -- then the first snapshot is deleted
 abbrev pub until_deleted : Script
@@ -79,4 +69,4 @@ logs_deleted = log_with tracked_disk 0 18 false false ∷ log_with later 18 8 fa
 
 -- the state once tracking of the disk ends
 abbrev pub stopped : State
-stopped = let σ : State = tracked_after started until_deleted in record { disks = σ.disks; shape = ended σ.shape tracked_disk }
+stopped = let σ : State = after started until_deleted in record { disks = σ.disks; shape = ended σ.shape tracked_disk }

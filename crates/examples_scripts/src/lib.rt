@@ -17,7 +17,7 @@ ghost use Rattle.examples_scripts.specs.Crowds.{crowded_from, crowded};
 ghost use Rattle.examples_scripts.specs.Guests.{attached_grows, fork_room, snapshot_of_attached, guest_writes, shared_base, no_room, raw_base};
 ghost use Rattle.examples_scripts.specs.Collecting.{coalesce, given_up, fold, live, live_many, live_new_block, live_given_up, blocked};
 ghost use Rattle.sm_log.specs.Examples.{answer};
-ghost use Rattle.examples_scripts.specs.Tracking.{earlier, later, logs_deleted, logs_later, logs_written, started, stopped, tracked_after, tracked_disk, tracked_told, until_deleted, until_later, until_written};
+ghost use Rattle.examples_scripts.specs.Tracking.{earlier, later, logs_deleted, logs_later, logs_written, no_log_room, started, stopped, tracked_disk, until_deleted, until_later, until_written};
 ghost use Rattle.examples_scripts.specs.Scripts.{IsAnswered, after, new, spent_from};
 ghost use Rattle.std.specs.Prelude.{map};
 
@@ -184,15 +184,17 @@ pub fn script_least_slot()
     ensures kept { with_block 1 (None ∷ Some 3 ∷ []) ≡ None ∷ Some 3 ∷ [] }
 {}
 
-/// A tracked disk is written to between two snapshots: a log is made with each snapshot, and goes with its disk.
+/// A tracked disk gets no other size. It is written to between two snapshots: a log is made with each snapshot, for which there must be
+/// room too, and goes with its disk.
 pub fn script_tracked()
-    ensures replies { tracked_told started until_later ≡ map (λ l. l.answer ++ 10 ∷ []) until_later }
-    ensures written { (tracked_after started until_written).shape.logs ≡ logs_written }
-    ensures later { (tracked_after started until_later).shape.logs ≡ logs_later }
-    ensures changed { answer earlier later ((tracked_after started until_later).shape.logs) ≡ Some (codes "QA==") }
-    ensures now { answer later tracked_disk ((tracked_after started until_later).shape.logs) ≡ Some (codes "AA==") }
-    ensures others { (tracked_after started until_later).shape.others ≡ 19 }
-    ensures deleted { (tracked_after started until_deleted).shape.logs ≡ logs_deleted }
-    ensures counted { (tracked_after started until_deleted).shape.sequence ≡ 30 }
+    ensures replies { IsAnswered started until_later }
+    ensures room { IsAnswered started no_log_room }
+    ensures written { (after started until_written).shape.logs ≡ logs_written }
+    ensures later { (after started until_later).shape.logs ≡ logs_later }
+    ensures changed { answer earlier later ((after started until_later).shape.logs) ≡ Some (codes "QA==") }
+    ensures now { answer later tracked_disk ((after started until_later).shape.logs) ≡ Some (codes "AA==") }
+    ensures others { (after started until_later).shape.others ≡ 19 }
+    ensures deleted { (after started until_deleted).shape.logs ≡ logs_deleted }
+    ensures counted { (after started until_deleted).shape.sequence ≡ 30 }
     ensures stopped { stopped.shape.others ≡ 17 }
 {}

@@ -187,6 +187,7 @@ fn refusals(rt: HostRuntime) {
         (Refusal::NotAttached, 6),
         (Refusal::ReadOnly, 7),
         (Refusal::RawDisk, 8),
+        (Refusal::Tracked, 20),
         (Refusal::OutOfRange, 9),
         (Refusal::BadSize, 10),
         (Refusal::Shrink, 11),

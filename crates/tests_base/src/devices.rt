@@ -149,6 +149,29 @@ fn a_source_gives_and_fails(rt: HostRuntime) -> Result<(), Fail> {
     Ok(())
 }
 
+/// A call up to a newline gives so many bytes.
+fn gives_until(
+    rt: &impl Abort,
+    source: &mut MemSource,
+    want: Result<usize, Failed>,
+    bytes: &[u8; 4],
+) {
+    let mut buffer = [0; 4];
+    assert!(rt; source.read_until(b'\n', &mut buffer) == want);
+    assert!(rt; buffer == *bytes);
+}
+
+#[test]
+fn a_source_gives_a_line_in_pieces(rt: HostRuntime) -> Result<(), Fail> {
+    let mut source = MemSource::new(rt.alloc(), b"abcd\n\nef", 3, Some(8))?;
+    gives_until(&rt, &mut source, Ok(3), b"abc\0");
+    gives_until(&rt, &mut source, Ok(2), b"d\n\0\0");
+    gives_until(&rt, &mut source, Ok(1), b"\n\0\0\0");
+    gives_until(&rt, &mut source, Ok(2), b"ef\0\0");
+    gives_until(&rt, &mut source, Err(Failed), b"\0\0\0\0");
+    Ok(())
+}
+
 /// A sink with room for eight bytes takes what fits.
 fn takes_what_fits(rt: &impl Abort, sink: &mut MemSink) {
     assert!(rt; write_all(sink, b"hello") == Ok(()));

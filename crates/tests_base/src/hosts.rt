@@ -4,7 +4,7 @@ use sm_disk::{Disk, Failed, Sink, Source};
 use sm_host::{FileDisk, ReadSource, WriteSink, seconds_since_2000};
 use std::fs;
 use std::fs::File;
-use std::io::{BufWriter, Read};
+use std::io::{BufReader, BufWriter, Read};
 use std::test::Fail;
 
 /// A file of three whole sectors and some bytes more.
@@ -63,8 +63,26 @@ fn fails_behind_four(source: &mut impl Source) -> bool {
 #[test]
 fn a_reader_that_fails_is_no_end_of_the_source(rt: HostRuntime) -> Result<(), Fail> {
     let folder = File::open(&rt, "/")?;
-    let mut source = ReadSource::new(b"list".as_slice().chain(folder));
+    let reader = BufReader::new(rt.alloc(), b"list".as_slice().chain(folder))?;
+    let mut source = ReadSource::new(reader);
     let fails = fails_behind_four(&mut source);
+    assert!(rt; fails);
+    Ok(())
+}
+
+/// Whether a source gives four bytes of a line, and then can't be read.
+fn fails_in_a_line(source: &mut impl Source) -> bool {
+    let mut eight = [0; 8];
+    let first = source.read_until(b'\n', &mut eight) == Ok(4) && eight == *b"list\0\0\0\0";
+    first && source.read_until(b'\n', &mut eight) == Err(Failed)
+}
+
+#[test]
+fn a_reader_that_fails_is_no_end_of_a_line(rt: HostRuntime) -> Result<(), Fail> {
+    let folder = File::open(&rt, "/")?;
+    let reader = BufReader::new(rt.alloc(), b"list".as_slice().chain(folder))?;
+    let mut source = ReadSource::new(reader);
+    let fails = fails_in_a_line(&mut source);
     assert!(rt; fails);
     Ok(())
 }
@@ -93,6 +111,22 @@ fn bytes_are_a_source_and_a_sink(rt: HostRuntime) {
     let mut sink = WriteSink::new(Vec::new(rt.alloc()));
     let takes = sink.write(b"ok 0\n") == Ok(5);
     assert!(rt; gives && takes);
+}
+
+/// Whether a source gives a line in pieces of at most four bytes, and nothing of the next one with it.
+fn gives_a_line(source: &mut impl Source) -> bool {
+    let mut four = [0; 4];
+    let first = source.read_until(b'\n', &mut four) == Ok(4) && four == *b"list";
+    let second = source.read_until(b'\n', &mut four) == Ok(1) && four == *b"\nist";
+    let third = source.read_until(b'\n', &mut four) == Ok(2) && four == *b"gcst";
+    first && second && third && source.read_until(b'\n', &mut four) == Ok(0)
+}
+
+#[test]
+fn a_reader_gives_a_line_in_pieces(rt: HostRuntime) {
+    let mut source = ReadSource::new(b"list\ngc".as_slice());
+    let gives = gives_a_line(&mut source);
+    assert!(rt; gives);
 }
 
 #[test]

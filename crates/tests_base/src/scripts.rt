@@ -327,6 +327,7 @@ fn refusals(rt: HostRuntime) -> Result<(), Fail> {
         (Refusal::NotAttached, "no NotAttached\n"),
         (Refusal::ReadOnly, "no ReadOnly\n"),
         (Refusal::RawDisk, "no RawDisk\n"),
+        (Refusal::Tracked, "no Tracked\n"),
         (Refusal::OutOfRange, "no OutOfRange\n"),
         (Refusal::BadSize, "no BadSize\n"),
         (Refusal::Shrink, "no Shrink\n"),
