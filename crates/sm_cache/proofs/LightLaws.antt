@@ -1,10 +1,10 @@
 -- A change that is light leaves the extents of each volume, so entries stay true.
-use Rattle.std.proofs.Common.{◌≡◌, ◌≢◌, ◌⊎◌, inl, inr, ⊎_elim, ℕ, Bool, true, false, not, ◌&&◌, ◌||◌, ◌==◌, List, [], ◌∷◌, length, Some, sym, ap, subst, ◌∙◌, arith, refl}
+use Rattle.std.proofs.Common.{◌≡◌, ◌≢◌, ◌⊎◌, inl, inr, ⊎_elim, ℕ, Bool, true, false, not, ◌&&◌, ◌||◌, ◌==◌, List, [], ◌∷◌, length, Some, sym, ap, subst, subst₂, ◌∙◌, arith, refl}
 use Rattle.std.specs.Prelude.{if◌then◌else◌, nat_lt}
 use Rattle.std.proofs.lemmas.Bool.{and_parts, eqb-true, true≢false}
 use Rattle.sm_base.specs.Kinds.{is_entry, is_log}
 use Rattle.sm_base.specs.declared.names.Name.{Name}
-use Rattle.sm_base.proofs.KindLaws.{entry-no_image}
+use Rattle.sm_base.proofs.KindLaws.{entry-no_image, entry-no_log}
 use Rattle.sm_disk.specs.Held.{Held, Keeps, reads}
 use Rattle.vg_meta.specs.Changes.{Changes, Permits, applied, made, tagged}
 use Rattle.vg_meta.specs.Tables.{VolumeTable, Row, IsTable, IsVolume, rows, extents_of, name_eq}
@@ -31,10 +31,9 @@ bare r v entry = none r.extents (eqb-true (length r.extents) 0 (subst (λ b. (no
 
     marks : (not r.hidden ≡ true) × ((not r.fresh ≡ true) × ((not (is_entry r.name) || (length r.extents == 0)) ≡ true))
     marks =
-        let h = subst (λ b. (if b then nat_lt 0 (length r.extents) else not (is_log r.name) && (not r.hidden && (not r.fresh && (not (is_entry r.name) || (length r.extents == 0))))) ≡ true)
-        (entry-no_image r.name entry) v.kind in
-        let l = and_parts (not (is_log r.name)) (not r.hidden && (not r.fresh && (not (is_entry r.name) || (length r.extents == 0)))) h in
-        let a = and_parts (not r.hidden) (not r.fresh && (not (is_entry r.name) || (length r.extents == 0))) l.1 in
+        let h = subst₂ (λ b l. (if b then nat_lt 0 (length r.extents) else if l then not r.hidden && nat_lt 0 (length r.extents) else not r.hidden && (not r.fresh && (not (is_entry r.name) || (length r.extents == 0)))) ≡ true)
+        (entry-no_image r.name entry) (entry-no_log r.name entry) v.kind in
+        let a = and_parts (not r.hidden) (not r.fresh && (not (is_entry r.name) || (length r.extents == 0))) h in
         (a.0, and_parts (not r.fresh) (not (is_entry r.name) || (length r.extents == 0)) a.1)
 
 bare_there : (count : ℕ) (t : VolumeTable) (n : Name) (r : Row) → IsTable count t → is_entry n ≡ true → rows t n ≡ Some r → r.extents ≡ []

@@ -8,7 +8,6 @@ pub mod FreeLaws
 pub mod GrowthLaws
 pub mod Halving
 pub mod LengthLaws
-pub mod LogLaws
 pub mod NameLaws
 pub mod NumberLaws
 pub mod Places

@@ -140,7 +140,7 @@ suits_alike : (n : Name) (hidden fresh : Bool) (es fs : List ℕ) → eqb (lengt
     → (let r : Row = record { name = n; hidden = hidden; fresh = fresh; extents = es } in
     let s : Row = record { name = n; hidden = hidden; fresh = fresh; extents = fs } in suits r ≡ suits s)
 suits_alike n hidden fresh es fs none =
-    ap₂ (λ (x y : Bool). cond (is_image n) x (not (is_log n) && (not hidden && (not fresh && (not (is_entry n) || y))))) (some_alike es fs none) none
+    ap₂ (λ (x y : Bool). cond (is_image n) x (cond (is_log n) (not hidden && x) (not hidden && (not fresh && (not (is_entry n) || y))))) (some_alike es fs none) none
   where
     some_alike : (es fs : List ℕ) → eqb (length es) 0 ≡ eqb (length fs) 0 → ltb 0 (length es) ≡ ltb 0 (length fs)
     some_alike [] [] none = refl

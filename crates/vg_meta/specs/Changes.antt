@@ -46,7 +46,7 @@ cut_to keep r = record r { extents = take keep r.extents }
 abbrev pub renamed : Name → Row → Row
 renamed to r = record r { name = to }
 
--- no volume has the name, which is a name; a journal entry has no extents and no marks, an image has at least one extent
+-- no volume has the name, which is a name; a journal entry has no extents and no marks, an image and a log have at least one extent
 pub record AllowsCreate (count : ℕ) (rs : List Row) (name : Name) (fresh : Bool) (extents : List ℕ) : Type 0 where
   pub name_proper : IsName name
   pub new_name : row_of rs name ≡ None

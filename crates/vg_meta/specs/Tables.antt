@@ -36,11 +36,12 @@ name_eq (Relink c p) (Relink d q) = bytes_eq c d && bytes_eq p q
 name_eq (Leaf l p) (Leaf m q) = bytes_eq l m && bytes_eq p q
 name_eq _ _ = false
 
--- an image has at least one extent; no other volume has marks, a journal entry has no extents, and no volume is a log
+-- an image and a log have at least one extent, and a log is not hidden; no other volume has marks, and a journal entry has no extents
 abbrev pub suits : Row → Bool
 suits r =
     if is_image r.name then nat_lt 0 (length r.extents)
-    else not (is_log r.name) && (not r.hidden && (not r.fresh && (not (is_entry r.name) || (length r.extents == 0))))
+    else if is_log r.name then not r.hidden && nat_lt 0 (length r.extents)
+    else not r.hidden && (not r.fresh && (not (is_entry r.name) || (length r.extents == 0)))
 
 -- what a volume of a table is
 pub record IsVolume (r : Row) : Type 0 where

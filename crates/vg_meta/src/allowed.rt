@@ -35,8 +35,10 @@ pub fn suits_kind(name: &Name, hidden: bool, fresh: bool, extents: &[u32]) -> bo
 {
     if name.is_image() {
         !extents.is_empty()
+    } else if name.is_log() {
+        !hidden && !extents.is_empty()
     } else {
-        !name.is_log() && !hidden && !fresh && (!name.is_entry() || extents.is_empty())
+        !hidden && !fresh && (!name.is_entry() || extents.is_empty())
     }
 }
 

@@ -263,7 +263,7 @@ module _ (c : Content) (table : IsTable c.count c.table) (geometry : IsGeometry 
   some_extents : (u : List ℕ) (r : Row) → r.name ≡ Raw u → suits r ≡ true → 0 < length r.extents
   some_extents u r named suited =
       ltb-true 0 (length r.extents)
-      (sym (ap (λ (m : Name). cond (is_image m) (nat_lt 0 (length r.extents)) (not (is_log m) && (not r.hidden && (not r.fresh && (not (is_entry m) || (length r.extents == 0)))))) named)
+      (sym (ap (λ (m : Name). cond (is_image m) (nat_lt 0 (length r.extents)) (cond (is_log m) (not r.hidden && nat_lt 0 (length r.extents)) (not r.hidden && (not r.fresh && (not (is_entry m) || (length r.extents == 0)))))) named)
       ∙ suited)
 
   of_raw : (u : List ℕ) (r : Row) → rows t (Raw u) ≡ Some r → r.fresh ≡ false → IsOfBlocks (Raw u)
