@@ -94,6 +94,20 @@ past : (bits : List Bool) (k : ℕ) → length bits ≤ k → bit bits k ≡ fal
 past bits k w = get_or_past bits k false w
 
 -- a bit that is seen is the bit that is kept
+-- the first bits, so many, are as they were
+pub bit-cut : (n : ℕ) (bits : List Bool) (k : ℕ) → k < n → bit (take n bits) k ≡ bit bits k
+bit-cut zero bits k w = absurd (omega (arith, w))
+bit-cut (suc n) [] k w = refl
+bit-cut (suc n) (b ∷ bits) zero w = refl
+bit-cut (suc n) (b ∷ bits) (suc k) w = bit-cut n bits k (omega (arith, w))
+
+-- behind them none is set
+pub bit-behind : (n : ℕ) (bits : List Bool) (k : ℕ) → n ≤ k → bit (take n bits) k ≡ false
+bit-behind zero bits k w = refl
+bit-behind (suc n) [] k w = refl
+bit-behind (suc n) (b ∷ bits) zero w = absurd (omega (arith, w))
+bit-behind (suc n) (b ∷ bits) (suc k) w = bit-behind n bits k (omega (arith, w))
+
 pub kept-bit : (pieces : ℕ) (bytes : List ℕ) → AreKept pieces bytes → (k : ℕ) → bit (bits_in pieces bytes) k ≡ is_set bytes k
 kept-bit pieces bytes kept k = by (cases_lt k pieces)
   where

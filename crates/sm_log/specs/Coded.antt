@@ -1,6 +1,6 @@
 -- Bits as bytes, the first bit in the most significant place, and bytes as text in base64 (RFC 4648, section 4): three bytes are four
 -- symbols of six bits, and `=` stands for a symbol that is missing at the end.
-use Rattle.std.specs.Prelude.{ℕ, zero, suc, ◌+◌, ◌*◌, ◌/◌, ◌%◌, Bool, true, false, List, [], ◌∷◌, drop, length, codes, slice_index}
+use Rattle.std.specs.Prelude.{ℕ, zero, suc, ◌+◌, ◌*◌, ◌/◌, ◌%◌, Bool, true, false, List, [], ◌∷◌, drop, take, length, codes, slice_index}
 use Rattle.sm_base.specs.Numbers.{div_up}
 use Rattle.sm_log.specs.Logs.{bit, sector_bits}
 
@@ -41,6 +41,10 @@ base64 [] = []
 base64 (a ∷ []) = symbol (a / 4) ∷ symbol (a % 4 * 16) ∷ 61 ∷ 61 ∷ []
 base64 (a ∷ b ∷ []) = symbol (a / 4) ∷ symbol (a % 4 * 16 + b / 16) ∷ symbol (b % 16 * 4) ∷ 61 ∷ []
 base64 (a ∷ b ∷ c ∷ rest) = symbol (a / 4) ∷ symbol (a % 4 * 16 + b / 16) ∷ symbol (b % 16 * 4 + c / 64) ∷ symbol (c % 64) ∷ base64 rest
+
+-- the text of the first bits, so many: as many bytes as they take, filled up with zeros, in base64
+abbrev pub spelled_first : ℕ → List Bool → List ℕ
+spelled_first count bits = base64 (packed (div_up count 8) (take count bits))
 
 -- the text of some bits: as many bytes as they take, in base64
 abbrev pub spelled : List Bool → List ℕ

@@ -35,6 +35,13 @@ pub record AreSet (first end : ℕ) (old new : List ℕ) : Type 0 where
   pub before : (k : ℕ) → k < first → is_set new k ≡ is_set old k
   pub behind : (k : ℕ) → end ≤ k → is_set new k ≡ is_set old k
 
+-- the bits from one to before another are clear, and the others as they were
+pub record AreClear (first end : ℕ) (old new : List ℕ) : Type 0 where
+  pub long : length new ≡ length old
+  pub inside : (k : ℕ) → first ≤ k → k < end → is_set new k ≡ false
+  pub before : (k : ℕ) → k < first → is_set new k ≡ is_set old k
+  pub behind : (k : ℕ) → end ≤ k → is_set new k ≡ is_set old k
+
 -- the bits from one to before another are the first ones of a sector, and the others as they were
 pub record AreFrom (first end : ℕ) (sector old new : List ℕ) : Type 0 where
   pub long : length new ≡ length old

@@ -6,8 +6,8 @@ ghost use Rattle.std.specs.String.{string_bytes};
 ghost use Rattle.sm_base.specs.Numbers.{div_up};
 ghost use Rattle.vhd_map.specs.Bitmaps.{is_set};
 ghost use Rattle.sm_log.specs.Logs.{bit, either, marked, piece_sectors, pieces_touched, sector_bits};
-ghost use Rattle.sm_log.specs.Coded.{base64, packed, packed_sector, spelled};
-ghost use Rattle.sm_log.specs.Kept.{AllSet, AreBitsOf, AreEither, AreFrom, AreSet, IsPut, SomeClear, with_sector};
+ghost use Rattle.sm_log.specs.Coded.{base64, packed, packed_sector, spelled, spelled_first};
+ghost use Rattle.sm_log.specs.Kept.{AllSet, AreBitsOf, AreClear, AreEither, AreFrom, AreSet, IsPut, SomeClear, with_sector};
 
 use base64::engine::general_purpose::STANDARD;
 use sm_base::NoMemory;
@@ -141,6 +141,17 @@ pub fn spelled(alloc: Global, bits: &Bits) -> Result<String, NoMemory>
     text_of(alloc, &bits.bytes, count)
 }
 
+/// The first bits, so many, as text: in bytes that are filled up with zeros, in base64.
+pub fn spelled_first(alloc: Global, bits: Bits, count: u32) -> Result<String, NoMemory>
+    requires { count ≤ length bits }
+    ensures { IfOk result (λ text. string_bytes text ≡ spelled_first count bits) }
+{
+    let pieces = bits.pieces();
+    let Bits { mut bytes, .. } = bits;
+    clear_all(&mut bytes, count as usize, pieces as usize);
+    text_of(alloc, &bytes, (count as usize + 7) / 8)
+}
+
 /// Whether so many sectors from one on lie in the first pieces, so many.
 fn is_within(sector: u64, count: u64, pieces: u32) -> bool
     ensures { result ≡ nat_le (sector + count) (piece_sectors * pieces) }
@@ -232,6 +243,17 @@ fn set_all(bytes: &mut [u8], first: usize, end: usize)
 {
     for piece in first..end {
         put_bit(bytes, piece, true);
+    }
+}
+
+/// Clears the bits from one to before another.
+fn clear_all(bytes: &mut [u8], first: usize, end: usize)
+    requires order { first ≤ end }
+    requires within { end ≤ 8 * length bytes.old }
+    ensures { AreClear first end bytes.old bytes.new }
+{
+    for piece in first..end {
+        put_bit(bytes, piece, false);
     }
 }
 

@@ -5,9 +5,7 @@
 //! pieces are counted from 0.
 //!
 //! The head is one sector, and a device writes a sector whole or not at all: a stop leaves the old head or the new one. Only
-//! `Bits::new` and `spelled` take memory: a bit for each piece, in whole sectors, and four symbols for each three bytes.
-//!
-//! The program does not use this crate yet.
+//! `Bits::new`, `spelled` and `spelled_first` take memory: a bit for each piece, in whole sectors, and four symbols for each three bytes.
 //!
 //! The definitions are in `specs/`: `Logs` (a log, and the walk over logs), `Told` (what logs tell of their disks), `Heads` (the first
 //! sector), `Coded` (bits as bytes, and bytes in base64), `Kept` (bits in memory) and `Examples`.
@@ -17,7 +15,7 @@ mod bits;
 mod heads;
 mod laws;
 
-pub use bits::{Bits, spelled};
+pub use bits::{Bits, spelled, spelled_first};
 pub use heads::Head;
 pub use laws::{
     Shows, example_later, example_stopped, example_unwritten, law_anew, law_begun, law_changed,

@@ -1,5 +1,5 @@
 -- Bits of some logs together, whichever comes first.
-use Rattle.std.proofs.Common.{◌≡◌, ℕ, zero, suc, ◌≤◌, max, ◌||◌, ◌-◌, Bool, true, false, List, [], ◌∷◌, length, replicate, Option, Some, None, Result, Ok, Err, refl, sym, ap, ap₂, ◌∙◌, arith}
+use Rattle.std.proofs.Common.{◌≡◌, ℕ, zero, suc, ◌≤◌, max, ◌||◌, ◌-◌, Bool, true, false, List, [], ◌∷◌, length, replicate, if◌then◌else◌, Option, Some, None, Result, Ok, Err, refl, sym, ap, ap₂, ◌∙◌, arith}
 use Rattle.std.proofs.lemmas.List.{length-replicate}
 use Rattle.std.specs.Prelude.{is_some, OnErr}
 use Rattle.std.specs.Str.{bytes_eq}
@@ -119,3 +119,56 @@ pub changed_other : (pieces : ℕ) (u n : List ℕ) (logs : List Log) (o : Optio
     → bits_of pieces (walk (length logs) u logs o) ≡ changed pieces u n logs
 unfolding changed
 changed_other pieces u n logs o apart is = rw (apart, is) refl
+
+-- ---- whether a walk leads back
+
+pub leads_nowhere : (most : ℕ) (u : List ℕ) (logs : List Log) (o : Option Log) → most ≡ 0 → is_some (walk most u logs o) ≡ false
+unfolding walk
+leads_nowhere most u logs o e = rw e refl
+
+pub leads_none : (most : ℕ) (u : List ℕ) (logs : List Log) → is_some (walk most u logs None) ≡ false
+unfolding walk
+leads_none zero u logs = refl
+leads_none (suc most) u logs = refl
+
+pub leads_met : (most : ℕ) (u : List ℕ) (logs : List Log) (l : Log) → (most ≡ 0 → ⊥) → bytes_eq l.disk u ≡ true → is_some (walk most u logs (Some l)) ≡ true
+unfolding walk
+leads_met zero u logs l some same = absurd (some refl)
+leads_met (suc most) u logs l some same = rw same refl
+
+some_of_more : (l : Log) (r : Option (List Log)) → is_some (r >>= λ ls. Some (l ∷ ls)) ≡ is_some r
+some_of_more l None = refl
+some_of_more l (Some ls) = refl
+
+pub leads_more : (k most : ℕ) (u : List ℕ) (logs : List Log) (l : Log) (o : Option Log) → most ≡ suc k → bytes_eq l.disk u ≡ false → o ≡ before l logs
+    → is_some (walk most u logs (Some l)) ≡ is_some (walk k u logs o)
+unfolding walk
+leads_more k most u logs l o e apart is = rw (e, apart, is) (some_of_more l (walk k u logs (before l logs)))
+
+united_some : (blank : List Bool) (r : Option (List Log)) → is_some (r >>= λ ls. Some (united blank ls)) ≡ is_some r
+united_some blank None = refl
+united_some blank (Some ls) = refl
+
+pub leads_same : (pieces : ℕ) (u n : List ℕ) (logs : List Log) → bytes_eq u n ≡ true → is_some (changed pieces u n logs) ≡ true
+unfolding changed
+leads_same pieces u n logs same = rw same refl
+
+pub leads_other : (pieces : ℕ) (u n : List ℕ) (logs : List Log) (o : Option Log) → bytes_eq u n ≡ false → o ≡ log_of n logs
+    → is_some (changed pieces u n logs) ≡ is_some (walk (length logs) u logs o)
+unfolding changed
+leads_other pieces u n logs o apart is = rw (apart, is) (united_some (replicate pieces false) (walk (length logs) u logs (log_of n logs)))
+
+-- ---- what is told has a bit for each piece
+
+pub changed_long : (pieces : ℕ) (u n : List ℕ) (logs : List Log) (bits : List Bool) → changed pieces u n logs ≡ Some bits → pieces ≤ length bits
+unfolding changed
+changed_long pieces u n logs bits e = by (bytes_eq u n) refl e
+  where
+    of_walk : (r : Option (List Log)) → bits_of pieces r ≡ Some bits → pieces ≤ length bits
+    of_walk r q = let m : max pieces pieces ≡ pieces = omega arith in bits_long pieces pieces r bits (ap (λ (n : ℕ). bits_of n r) m ∙ q)
+
+    by : (b : Bool) → bytes_eq u n ≡ b → (if b then Some (replicate pieces false) else bits_of pieces (walk (length logs) u logs (log_of n logs))) ≡ Some bits → pieces ≤ length bits
+    by true same q =
+        let s : replicate pieces false ≡ bits = cc in
+        omega (arith, length-replicate {A = Bool} pieces false, ap (λ (x : List Bool). length x) s)
+    by false apart q = of_walk (walk (length logs) u logs (log_of n logs)) q

@@ -5,7 +5,8 @@ use Rattle.std.specs.List.Sorted.{IsStrictlySortedBy}
 use Rattle.std.specs.Ordering.{nat_cmp}
 use Rattle.std.specs.Cmp.Lexicographic.{slice_cmp}
 use Rattle.common_laws.specs.Lists.{◌>>=◌}
-use Rattle.sm_log.specs.Logs.{Log, bit, is_log_of, log_of, pieces_touched, united, with_log}
+use Rattle.sm_log.specs.Coded.{spelled_first}
+use Rattle.sm_log.specs.Logs.{Log, bit, changed, is_log_of, log_of, pieces_touched, united, with_log}
 
 -- the most logs that there are: one for each disk
 abbrev pub log_limit : ℕ
@@ -41,6 +42,10 @@ pub record IsSlot (logs : List Log) (u : List ℕ) (i : ℕ) : Type 0 where
 -- whether a disk has no log, or its log has the bits set of all pieces that so many sectors from one on reach
 abbrev pub is_touched : List ℕ → ℕ → ℕ → List Log → Bool
 is_touched u sector count logs = elim (log_of u logs) as (λ _. Bool) [ None ↦ true | Some l ↦ list_all (bit l.bits) (pieces_touched sector count) ]
+
+-- what changed between the snapshots of two disks as text, a bit for each piece of a disk with so many
+abbrev pub told : ℕ → List ℕ → List ℕ → List Log → Option (List ℕ)
+told pieces u n logs = changed pieces u n logs >>= λ bits. Some (spelled_first pieces bits)
 
 -- the bits, at least so many, that are set in one of the logs that a walk gave
 abbrev pub bits_of : ℕ → Option (List Log) → Option (List Bool)

@@ -1,14 +1,15 @@
 //! The logs of a repository, in memory.
 
-ghost use Rattle.std.specs.Prelude.{◌≡◌, ◌≤◌, ◌<◌, ◌+◌, ◌*◌, [], None, IfOk, IfSome, OnErr, IsSome, length};
+ghost use Rattle.std.specs.Prelude.{◌≡◌, ◌≤◌, ◌<◌, ◌+◌, ◌*◌, [], ℕ, None, Some, IfOk, IfSome, MatchOption, OnErr, IsSome, is_some, length};
 ghost use Rattle.std.specs.Option.{option_copied};
+ghost use Rattle.std.specs.String.{string_bytes};
 ghost use Rattle.sm_log.specs.Logs.{Log, begun_anew, changed, log_of, on_log, piece_sectors, touched, with_log, without_log};
-ghost use Rattle.sm_logs.specs.Held.{IsRising, is_touched};
+ghost use Rattle.sm_logs.specs.Held.{IsRising, is_touched, told};
 
 use crate::rows::{Log, place};
-use crate::walks::united;
+use crate::walks::{leads, united};
 use sm_base::NoMemory;
-use sm_log::Bits;
+use sm_log::{Bits, spelled_first};
 use std::alloc::Global;
 use std::marker::Model;
 use uuid::Uuid;
@@ -119,6 +120,40 @@ impl Logs {
         };
         let log = &mut self.rows[at];
         log.touch(sector, count);
+    }
+
+    /// Whether the logs lead from the later of two disks back to the earlier one, or both are one disk: then there is an answer to what changed
+    /// between their snapshots.
+    pub fn leads(&self, earlier: &Uuid, later: &Uuid) -> bool
+        ensures { (pieces : ℕ) → result ≡ is_some (changed pieces earlier.now later.now self.now) }
+    {
+        if earlier == later {
+            return true;
+        }
+        match self.get(later) {
+            Some(log) => leads(&self.rows, log, earlier, self.rows.len()),
+            None => false,
+        }
+    }
+
+    /// What changed between the snapshots of two disks, as text: a bit for each piece of a disk with so many. It is `None` exactly where
+    /// `changed` is.
+    pub fn told(
+        &self,
+        alloc: Global,
+        earlier: &Uuid,
+        later: &Uuid,
+        pieces: u32,
+    ) -> Result<Option<String>, NoMemory>
+        ensures told { IfOk result (λ text. MatchOption text (told pieces earlier.now later.now self.now ≡ None)
+            (λ t. told pieces earlier.now later.now self.now ≡ Some (string_bytes t))) }
+        ensures memory { OnErr result (IsSome (changed pieces earlier.now later.now self.now)) }
+    {
+        let Some(bits) = self.changed(alloc, earlier, later, pieces)? else {
+            return Ok(None);
+        };
+        let text = spelled_first(alloc, bits, pieces)?;
+        Ok(Some(text))
     }
 
     /// The pieces, of a disk with so many, that may have been written between the snapshots of two disks; `None` exactly where the logs do

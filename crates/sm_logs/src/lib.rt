@@ -7,8 +7,6 @@
 //! in takes none. The bits of a log take a bit for each piece. A log is found by halving. What changed between two snapshots is
 //! answered by one walk of at most as many steps as there are logs, and takes the memory for the bits that it answers.
 //!
-//! The program does not use this crate yet.
-//!
 //! The definitions are in `specs/`: `Held` (how logs are held, and whether a write needs a mark).
 #![tactic(auto)]
 

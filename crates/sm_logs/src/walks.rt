@@ -1,6 +1,6 @@
 //! The walk from a log back to one before it.
 
-ghost use Rattle.std.specs.Prelude.{◌≡◌, ◌==◌, Some, IfOk, OnErr, IsSome};
+ghost use Rattle.std.specs.Prelude.{◌≡◌, ◌==◌, Some, IfOk, OnErr, IsSome, is_some};
 ghost use Rattle.std.specs.List.{find};
 ghost use Rattle.std.specs.Option.{option_copied};
 ghost use Rattle.sm_log.specs.Logs.{before, walk};
@@ -28,6 +28,22 @@ fn before<'a>(logs: &'a [Log], log: &Log) -> Option<&'a Log>
         return None;
     }
     tagged(logs, since)
+}
+
+/// Whether that of a disk is met from one log back, within so many logs.
+pub(crate) fn leads(logs: &[Log], log: &Log, disk: &Uuid, most: usize) -> bool
+    ensures { result ≡ is_some (walk most disk.now logs.now (Some log.now)) }
+{
+    if most == 0 {
+        return false;
+    }
+    if log.is_of(disk) {
+        return true;
+    }
+    match before(logs, log) {
+        Some(earlier) => leads(logs, earlier, disk, most - 1),
+        None => false,
+    }
 }
 
 /// The bits, at least so many, that are set in one of the logs from one back to that of a disk, which is left out; `None` exactly
