@@ -1,5 +1,5 @@
--- Tracking that begins and that ends keeps logs good.
-use Rattle.std.proofs.Common.{◌≡◌, ◌≢◌, ℕ, ◌*◌, ◌≤◌, false, not, List, map, length, None, refl, sym, ap, ◌∙◌, subst, inl, inr, arith}
+-- Tracking that begins and that ends keeps logs good, and those with a tag are of snapshots.
+use Rattle.std.proofs.Common.{◌≡◌, ◌≢◌, ℕ, ◌*◌, ◌≤◌, false, not, List, map, length, None, sym, ap, ◌∙◌, subst, inl, inr, arith}
 use Rattle.std.proofs.lemmas.List.{length-replicate}
 use Rattle.common_laws.specs.Lists.{In, Distinct}
 use Rattle.common_laws.proofs.Lists.{Distinct-filter, Distinct-insert, In-filter, In-insert, In-map, Sorted-filter}
@@ -7,7 +7,7 @@ use Rattle.sm_base.proofs.NumberLemmas.{le-div_up}
 use Rattle.sm_log.specs.Logs.{Log, is_log_of, log_before, log_of, log_sectors, new_log, piece_count, with_log, without_log}
 use Rattle.sm_machine.specs.Shapes.{Shape, ImageRow}
 use Rattle.sm_machine.specs.Refusals.{with_image_of}
-use Rattle.sm_machine.specs.Tracking.{AreGoodLogs, IsGoodLog, begun, disk_pieces, ended, log_room, with_logs}
+use Rattle.sm_machine.specs.Tracking.{AreGoodLogs, AreOfSnapshots, IsGoodLog, begun, disk_pieces, ended, log_room, with_logs}
 use Rattle.sm_machine.specs.WellFormed.{HasRecord, IsWellFormed, uuid_le}
 use Rattle.sm_machine.proofs.LogLists.{no_log, sorted-with_log}
 use Rattle.sm_machine.proofs.Numbers.{risen-up}
@@ -23,7 +23,6 @@ module _ (s : Shape) (w : IsWellFormed s) (g : AreGoodLogs s) where
         room = good.room;
         tag = omega (arith, good.tag, risen-up s.sequence k w.sequence);
         since = omega (arith, good.since, risen-up s.sequence k w.sequence);
-        snapshot = good.snapshot;
       }
 
   pub ended_logs : (u : List ℕ) → AreGoodLogs (ended s u)
@@ -54,7 +53,6 @@ module _ (s : Shape) (w : IsWellFormed s) (g : AreGoodLogs s) where
       room = subst (λ (n : ℕ). log_sectors n ≤ log_room s u * s.extent) (sym long) (le-div_up (log_sectors (disk_pieces u s)) s.extent (omega (arith, w.geometry.extent_least)));
       tag = omega arith;
       since = omega arith;
-      snapshot = λ t. absurd (t refl);
     }
 
     each_good : (l : Log) → In l all → IsGoodLog (with_logs all 2 s) l
@@ -82,3 +80,12 @@ module _ (s : Shape) (w : IsWellFormed s) (g : AreGoodLogs s) where
       one_tag = one_tag_all;
       within = omega arith;
     }
+
+-- ---- logs with a tag
+
+pub begun_snapshots : (s : Shape) (u : List ℕ) → AreOfSnapshots s → AreOfSnapshots (begun s u)
+unfolding with_log
+begun_snapshots s u a l h t = elim (In-insert log_before (new_log u (log_room s u) (disk_pieces u s)) s.logs l h) [ inl e ↦ absurd (t (ap (λ (x : Log). x.tag) e)) | inr k ↦ a l k t ]
+
+pub ended_snapshots : (s : Shape) (u : List ℕ) → AreOfSnapshots s → AreOfSnapshots (ended s u)
+ended_snapshots s u a l h t = a l (In-filter (λ (x : Log). not (is_log_of u x)) s.logs l h).0 t

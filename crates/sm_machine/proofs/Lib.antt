@@ -34,6 +34,7 @@ pub mod Tables
 pub mod Together
 pub mod Tracked
 pub mod TrackedLogs
+pub mod TrackedSnapshots
 pub mod TrackedTruth
 pub mod Told
 pub mod Uses

@@ -1,5 +1,5 @@
--- Good logs are those of disks as their users see them: each has a bit for each piece of its disk, and one with a tag is that of a snapshot.
-use Rattle.std.proofs.Common.{◌≡◌, ◌≢◌, ℕ, Bool, true, false, List, [], ◌∷◌, map, length, Option, Some, None, refl, sym, ap, ◌∙◌, subst}
+-- Good logs are those of disks as their users see them: each has a bit for each piece of its disk; and a snapshot is a disk for reading alone.
+use Rattle.std.proofs.Common.{◌≡◌, ℕ, Bool, true, false, List, [], ◌∷◌, map, length, Option, Some, None, refl, sym, ap, ◌∙◌, subst}
 use Rattle.std.specs.List.{filter}
 use Rattle.std.specs.Str.{bytes_eq}
 use Rattle.std.proofs.lemmas.List.{length-replicate}
@@ -47,7 +47,6 @@ are_blanks s w = record {
 pub record IsOfDisk (d : Disk) (l : Log) : Type 0 where
   pub named : d.uuid ≡ l.disk
   pub pieces : length l.bits ≡ piece_count (length d.sectors)
-  pub snapshot : l.tag ≢ 0 → d.read_only ≡ true
 
 module _ (disks : List Disk) (s : Shape) (w : IsWellFormed s) (a : AreDisksOf disks s) where
   pub its_record : (d : Disk) → In d disks → In (record_of d) s.records
@@ -76,9 +75,6 @@ module _ (disks : List Disk) (s : Shape) (w : IsWellFormed s) (a : AreDisksOf di
       record {
         named = e;
         pieces = n ∙ ap piece_count (sym i.2);
-        snapshot = λ t. (let m : is_snapshot l.disk s ≡ true = g.snapshot t in
-            let f : disk_record l.disk s ≡ Some (record_of d) = subst (λ (v : List ℕ). disk_record v s ≡ Some (record_of d)) e (record_found d h) in
-            sym (ap (of_some (λ (r : DiskRecord). r.read_only)) f) ∙ m);
       }
 
   pub disk_recorded : (d : Disk) (u : List ℕ) → In d disks → d.uuid ≡ u → HasRecord s u
@@ -91,10 +87,11 @@ module _ (disks : List Disk) (s : Shape) (w : IsWellFormed s) (a : AreDisksOf di
       let same : length d.sectors ≡ i.size = a.sizes d i h k.0 own.0 (own.1 ∙ sym o.named) in
       o.pieces ∙ ap piece_count same
 
-  pub disk_snapshot : (d : Disk) (l : Log) → In d disks → IsOfDisk d l → l.tag ≢ 0 → is_snapshot l.disk s ≡ true
-  disk_snapshot d l h o t =
-      let f : disk_record l.disk s ≡ Some (record_of d) = subst (λ (v : List ℕ). disk_record v s ≡ Some (record_of d)) o.named (record_found d h) in
-      ap (of_some (λ (r : DiskRecord). r.read_only)) f ∙ o.snapshot t
+  -- whether a disk is a snapshot
+  pub disk_snapshot : (d : Disk) (u : List ℕ) → In d disks → d.uuid ≡ u → is_snapshot u s ≡ d.read_only
+  disk_snapshot d u h e =
+      let f : disk_record u s ≡ Some (record_of d) = subst (λ (v : List ℕ). disk_record v s ≡ Some (record_of d)) e (record_found d h) in
+      ap (of_some (λ (r : DiskRecord). r.read_only)) f
 
 -- ---- disks that stay
 

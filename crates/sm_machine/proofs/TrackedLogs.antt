@@ -22,7 +22,7 @@ use Rattle.sm_machine.specs.Tracking.{AreGoodLogs, IsGoodLog, log_commits, logs_
 use Rattle.sm_machine.specs.WellFormed.{AreDisksOf, HasRecord, IsWellFormed, uuid_le}
 use Rattle.sm_machine.proofs.Fresh
 use Rattle.sm_machine.proofs.Forks.{IsForkable}
-use Rattle.sm_machine.proofs.LogDisks.{IsOfDisk, KeepsDisk, Stays, are_blanks, blanks, disk_pieces_are, disk_recorded, disk_snapshot, disk_there, log_disk, stays_beside, stays_changed, stays_forked, stays_kept, stays_same}
+use Rattle.sm_machine.proofs.LogDisks.{IsOfDisk, KeepsDisk, Stays, are_blanks, blanks, disk_pieces_are, disk_recorded, disk_there, log_disk, stays_beside, stays_changed, stays_forked, stays_kept, stays_same}
 use Rattle.sm_machine.proofs.LogLists.{disks-on_log, log_found, no_log, sorted-with_log}
 use Rattle.sm_machine.proofs.Numbers.{risen-last, risen-up}
 use Rattle.sm_machine.proofs.Passed.{IsPassed, passed}
@@ -31,24 +31,24 @@ use Rattle.sm_machine.proofs.Together.{length-cut, length-overwritten, next_toge
 use Rattle.sm_machine.proofs.Tracked.{IsBeside, next_beside}
 
 -- a log as another was, but for its bits and the snapshot since which it has them
-record IsLike (l m : Log) : Type 0 where
-  disk : m.disk ≡ l.disk
-  extents : m.extents ≡ l.extents
-  tag : m.tag ≡ l.tag
-  long : length m.bits ≡ length l.bits
+pub record IsLike (l m : Log) : Type 0 where
+  pub disk : m.disk ≡ l.disk
+  pub extents : m.extents ≡ l.extents
+  pub tag : m.tag ≡ l.tag
+  pub long : length m.bits ≡ length l.bits
 
 -- a change of a log that leaves it like it was
-abbrev Gentle : (Log → Log) → Type 0
+abbrev pub Gentle : (Log → Log) → Type 0
 Gentle f = (l : Log) → IsLike l (f l)
 
-like_when : (f : Log → Log) → Gentle f → (b : Bool) (l : Log) → IsLike l (when b f l)
+pub like_when : (f : Log → Log) → Gentle f → (b : Bool) (l : Log) → IsLike l (when b f l)
 like_when f gentle true l = gentle l
 like_when f gentle false l = record { disk = refl; extents = refl; tag = refl; long = refl }
 
-touched_gentle : (sector count : ℕ) → Gentle (touched sector count)
+pub touched_gentle : (sector count : ℕ) → Gentle (touched sector count)
 touched_gentle sector count l = record { disk = refl; extents = refl; tag = refl; long = marked-long (pieces_touched sector count) l.bits }
 
-anew_gentle : (tag : ℕ) → Gentle (begun_anew tag)
+pub anew_gentle : (tag : ℕ) → Gentle (begun_anew tag)
 anew_gentle tag l = record { disk = refl; extents = refl; tag = refl; long = length-replicate (length l.bits) false }
 
 -- two logs with one tag, other than 0, are one log
@@ -59,7 +59,7 @@ OneTag logs = (a b : Log) → In a logs → In b logs → a.tag ≡ b.tag → a.
 
 module _ (u : List ℕ) (f : Log → Log) (gentle : Gentle f) (logs : List Log) where
   -- each log is one of before, changed or not
-  was : (m : Log) → In m (on_log u f logs) → (l : Log) × In l logs × (m ≡ when (is_log_of u l) f l)
+  pub was : (m : Log) → In m (on_log u f logs) → (l : Log) × In l logs × (m ≡ when (is_log_of u l) f l)
   was m h = In-map (λ (l : Log). when (is_log_of u l) f l) logs m h
 
   disks_same : map (λ (l : Log). l.disk) (on_log u f logs) ≡ map (λ (l : Log). l.disk) logs
@@ -83,16 +83,16 @@ module _ (u : List ℕ) (f : Log → Log) (gentle : Gentle f) (logs : List Log) 
 -- ---- from one shape to the next
 
 module _ (s : Shape) (w : IsWellFormed s) (g : AreGoodLogs s) (c : Command) (p : IsPassed s c) where
-  abbrev t : Shape
+  abbrev pub t : Shape
   t = shape_next s c
 
-  abbrev next_disks : List Disk
+  abbrev pub next_disks : List Disk
   next_disks = disks_next (blanks s) s c
 
-  next_well : IsWellFormed t
+  pub next_well : IsWellFormed t
   next_well = next_keeps s c w p
 
-  next_are : AreDisksOf next_disks t
+  pub next_are : AreDisksOf next_disks t
   next_are = next_together (blanks s) s c w (are_blanks s w) p
 
   beside : IsBeside s t
@@ -120,7 +120,6 @@ module _ (s : Shape) (w : IsWellFormed s) (g : AreGoodLogs s) (c : Command) (p :
       let now : IsOfDisk n.now m = record {
         named = n.uuid ∙ (o.named ∙ sym like.disk);
         pieces = like.long ∙ (o.pieces ∙ ap piece_count (sym n.long));
-        snapshot = λ tag. n.read_only ∙ o.snapshot (λ z. tag (like.tag ∙ z));
       } in
       record {
         disk = disk_recorded next_disks t next_well next_are n.now m.disk n.there now.named;
@@ -129,7 +128,6 @@ module _ (s : Shape) (w : IsWellFormed s) (g : AreGoodLogs s) (c : Command) (p :
             (subst (λ (x : ℕ). log_sectors (length m.bits) ≤ x * s.extent) (sym like.extents) (subst (λ (x : ℕ). log_sectors x ≤ l.extents * s.extent) (sym like.long) good.room));
         tag = omega (arith, like.tag, good.tag, not_lower_counted k);
         since = since;
-        snapshot = λ tag. disk_snapshot next_disks t next_well next_are n.now m n.there now tag;
       }
 
   since_counted : (k : ℕ) (l : Log) → In l s.logs → l.since < risen t.sequence k
@@ -183,13 +181,13 @@ module _ (s : Shape) (w : IsWellFormed s) (g : AreGoodLogs s) (c : Command) (p :
 -- ---- a snapshot
 
 module _ (s : Shape) (w : IsWellFormed s) (g : AreGoodLogs s) (u twin : List ℕ) (p : IsPassed s (Snapshot u twin)) where
-  abbrev forked : Shape
+  abbrev pub forked : Shape
   forked = shape_next s (Snapshot u twin)
 
   forkable : IsForkable s u twin
   forkable = snapshot_facts s u twin p
 
-  abbrev fork : List Disk
+  abbrev pub fork : List Disk
   fork = disks_next (blanks s) s (Snapshot u twin)
 
   fork_stays : (d : Disk) → In d (blanks s) → Stays fork d
@@ -205,12 +203,12 @@ module _ (s : Shape) (w : IsWellFormed s) (g : AreGoodLogs s) (u twin : List ℕ
       omega (arith, above, risen-up forked.sequence 2 (risen-last s.sequence (commits s (Snapshot u twin))))
 
   -- the snapshot is for reading alone, and as large as its disk
-  record IsTwinOf (l : Log) : Type 0 where
-    now : Disk
-    there : In now fork
-    uuid : now.uuid ≡ twin
-    pieces : length l.bits ≡ piece_count (length now.sectors)
-    read_only : now.read_only ≡ true
+  pub record IsTwinOf (l : Log) : Type 0 where
+    pub now : Disk
+    pub there : In now fork
+    pub uuid : now.uuid ≡ twin
+    pub pieces : length l.bits ≡ piece_count (length now.sectors)
+    pub read_only : now.read_only ≡ true
 
   abbrev twin_disk : Disk → Disk
   twin_disk b = record { uuid = twin; label = b.label; origin = Some u; read_only = true; sectors = b.sectors }
@@ -220,7 +218,7 @@ module _ (s : Shape) (w : IsWellFormed s) (g : AreGoodLogs s) (u twin : List ℕ
   twin_in (Some x) b e = let q : x ≡ b = cc in subst (λ (y : Disk). In (twin_disk y) (fork_disks u twin true (Some x) (blanks s))) q (In-insert_new _ (twin_disk x) (blanks s))
   twin_in None b e = cc
 
-  twin_there : (l : Log) → In l s.logs → l.disk ≡ u → IsTwinOf l
+  pub twin_there : (l : Log) → In l s.logs → l.disk ≡ u → IsTwinOf l
   unfolding disks_next
   twin_there l h named = by (find (is_disk u) (blanks s)) refl
     where
@@ -253,14 +251,13 @@ module _ (s : Shape) (w : IsWellFormed s) (g : AreGoodLogs s) (u twin : List ℕ
         let n : IsTwinOf l = twin_there l h named in
         let well : IsWellFormed forked = next_well s w g (Snapshot u twin) p in
         let are : AreDisksOf fork forked = next_are s w g (Snapshot u twin) p in
-        let o : IsOfDisk n.now mine = record { named = n.uuid; pieces = n.pieces; snapshot = λ t. n.read_only } in
+        let o : IsOfDisk n.now mine = record { named = n.uuid; pieces = n.pieces } in
         record {
           disk = disk_recorded fork forked well are n.now twin n.there n.uuid;
           pieces = λ i e. disk_pieces_are fork forked well are n.now mine n.there o i e;
           room = subst (λ (x : ℕ). log_sectors (length l.bits) ≤ l.extents * x) (sym (beside s w g (Snapshot u twin) p).extent) (g.good l h).room;
           tag = tag_below;
           since = since_counted s w g (Snapshot u twin) p 2 l h;
-          snapshot = λ t. disk_snapshot fork forked well are n.now mine n.there o t;
         }
 
     since_anew : (b : Bool) (x : Log) → In x s.logs → (when b anew x).since < risen forked.sequence 2
@@ -348,27 +345,49 @@ module _ (s : Shape) (w : IsWellFormed s) (g : AreGoodLogs s) where
   write_stays : (u : List ℕ) (sector count : ℕ) (sectors : List (List ℕ)) → length sectors ≡ count → is_outside s u sector count ≡ false → (d : Disk) → In d (blanks s) → Stays (on_disk u (written_disk sector sectors) (blanks s)) d
   write_stays u sector count sectors n e d i = stays_changed u (written_disk sector sectors) (blanks s) d i (λ same. written_keeps sector count sectors d n (within (blanks s) s w (are_blanks s w) u sector count e d i same))
 
+  -- the logs of a command that stay: all but that of a disk that is deleted
+  abbrev pub rest : Command → List Log
+  rest (Delete u) = without_log u s.logs
+  rest c = s.logs
+
+  -- their disks stay
+  pub stays : (c : Command) → IsPassed s c → (l : Log) (d : Disk) → In l (rest c) → In d (blanks s) → d.uuid ≡ l.disk → Stays (disks_next (blanks s) s c) d
+  unfolding is_tracked is_out_of_range disks_next
+  stays (Create u size raw label) p l d h i q = stays_beside _ (blanks s) d i
+  stays (Delete u) p l d h i q = stays_kept (λ (d : Disk). not (is_disk u d)) (blanks s) d i (ap not (bytes_eq-apart d.uuid u (λ same. apart u s.logs l h (sym q ∙ same))))
+  stays (Attach u mode) p l d h i q = stays_same (blanks s) d i
+  stays (Detach u) p l d h i q = stays_same (blanks s) d i
+  stays (Snapshot u twin) p l d h i q = stays_forked u twin true (find (is_disk u) (blanks s)) (blanks s) d i
+  stays (Clone u twin) p l d h i q = stays_forked u twin false (find (is_disk u) (blanks s)) (blanks s) d i
+  stays (Resize u size) p l d h i q =
+      stays_changed u (grown_disk (rounded s false size)) (blanks s) d i (λ same. absurd (no_log u s.logs l (none_of (log_of u s.logs) p.tracked) h (sym q ∙ same)))
+  stays (Label u text) p l d h i q = stays_changed u (λ (d : Disk). record d { label = text }) (blanks s) d i (λ same. record { uuid = refl; long = refl; read_only = refl })
+  stays (Write u sector bytes) p l d h i q =
+      write_stays u sector (length bytes / sector_bytes) (sectors_of_bytes bytes) (length-cut (length bytes / sector_bytes) bytes) (or_parts (is_outside s u sector (length bytes / sector_bytes)) _ p.out_of_range).0 d i
+  stays (Fill u sector count byte) p l d h i q = write_stays u sector count (filled count byte) (length-replicate count _) p.out_of_range d i
+  stays (Read u sector count) p l d h i q = stays_same (blanks s) d i
+  stays (Flush u) p l d h i q = stays_same (blanks s) d i
+  stays Gc p l d h i q = stays_same (blanks s) d i
+  stays Listing p l d h i q = stays_same (blanks s) d i
+  stays Stat p l d h i q = stays_same (blanks s) d i
+
   pub tracked_good : (c : Command) → IsPassed s c → AreGoodLogs (tracked s c (shape_next s c))
-  unfolding logs_after log_commits is_tracked is_out_of_range disks_next
-  tracked_good (Create u size raw label) p = same_logs s w g (Create u size raw label) p (λ l d h i q. stays_beside _ (blanks s) d i)
-  tracked_good (Delete u) p = fewer_logs s w g (Delete u) p u (of_log (λ (l : Log). 1) (log_of u s.logs))
-      (λ l d h i q. stays_kept (λ (d : Disk). not (is_disk u d)) (blanks s) d i (ap not (bytes_eq-apart d.uuid u (λ same. apart u s.logs l h (sym q ∙ same)))))
-  tracked_good (Attach u mode) p = same_logs s w g (Attach u mode) p (λ l d h i q. stays_same (blanks s) d i)
-  tracked_good (Detach u) p = same_logs s w g (Detach u) p (λ l d h i q. stays_same (blanks s) d i)
+  unfolding logs_after log_commits
+  tracked_good (Create u size raw label) p = same_logs s w g (Create u size raw label) p (stays (Create u size raw label) p)
+  tracked_good (Delete u) p = fewer_logs s w g (Delete u) p u (of_log (λ (l : Log). 1) (log_of u s.logs)) (stays (Delete u) p)
+  tracked_good (Attach u mode) p = same_logs s w g (Attach u mode) p (stays (Attach u mode) p)
+  tracked_good (Detach u) p = same_logs s w g (Detach u) p (stays (Detach u) p)
   tracked_good (Snapshot u twin) p = split_good s w g u twin p (log_of u s.logs) refl
-  tracked_good (Clone u twin) p = same_logs s w g (Clone u twin) p (λ l d h i q. stays_forked u twin false (find (is_disk u) (blanks s)) (blanks s) d i)
-  tracked_good (Resize u size) p = same_logs s w g (Resize u size) p
-      (λ l d h i q. stays_changed u (grown_disk (rounded s false size)) (blanks s) d i (λ same. absurd (no_log u s.logs l (none_of (log_of u s.logs) p.tracked) h (sym q ∙ same))))
-  tracked_good (Label u text) p = same_logs s w g (Label u text) p (λ l d h i q. stays_changed u (λ (d : Disk). record d { label = text }) (blanks s) d i (λ same. record { uuid = refl; long = refl; read_only = refl }))
-  tracked_good (Write u sector bytes) p = touched_logs s w g (Write u sector bytes) p u sector (length bytes / sector_bytes)
-      (λ l d h i q. write_stays u sector (length bytes / sector_bytes) (sectors_of_bytes bytes) (length-cut (length bytes / sector_bytes) bytes) (or_parts (is_outside s u sector (length bytes / sector_bytes)) _ p.out_of_range).0 d i)
-  tracked_good (Fill u sector count byte) p = touched_logs s w g (Fill u sector count byte) p u sector count
-      (λ l d h i q. write_stays u sector count (filled count byte) (length-replicate count _) p.out_of_range d i)
-  tracked_good (Read u sector count) p = same_logs s w g (Read u sector count) p (λ l d h i q. stays_same (blanks s) d i)
-  tracked_good (Flush u) p = same_logs s w g (Flush u) p (λ l d h i q. stays_same (blanks s) d i)
-  tracked_good Gc p = same_logs s w g Gc p (λ l d h i q. stays_same (blanks s) d i)
-  tracked_good Listing p = same_logs s w g Listing p (λ l d h i q. stays_same (blanks s) d i)
-  tracked_good Stat p = same_logs s w g Stat p (λ l d h i q. stays_same (blanks s) d i)
+  tracked_good (Clone u twin) p = same_logs s w g (Clone u twin) p (stays (Clone u twin) p)
+  tracked_good (Resize u size) p = same_logs s w g (Resize u size) p (stays (Resize u size) p)
+  tracked_good (Label u text) p = same_logs s w g (Label u text) p (stays (Label u text) p)
+  tracked_good (Write u sector bytes) p = touched_logs s w g (Write u sector bytes) p u sector (length bytes / sector_bytes) (stays (Write u sector bytes) p)
+  tracked_good (Fill u sector count byte) p = touched_logs s w g (Fill u sector count byte) p u sector count (stays (Fill u sector count byte) p)
+  tracked_good (Read u sector count) p = same_logs s w g (Read u sector count) p (stays (Read u sector count) p)
+  tracked_good (Flush u) p = same_logs s w g (Flush u) p (stays (Flush u) p)
+  tracked_good Gc p = same_logs s w g Gc p (stays Gc p)
+  tracked_good Listing p = same_logs s w g Listing p (stays Listing p)
+  tracked_good Stat p = same_logs s w g Stat p (stays Stat p)
 
 good_by : (σ : State) (c : Command) (o : Option Refusal) → refusal σ.shape c ≡ o → IsWellFormed σ.shape → AreGoodLogs σ.shape → AreGoodLogs ((tracked_unless o σ c).after.shape)
 unfolding accepted

@@ -19,14 +19,14 @@ use Rattle.sm_machine.specs.declared.commands.Command.{Command}
 use Rattle.sm_machine.specs.declared.commands.Command.TheVariants.{Create, Delete, Attach, Detach, Snapshot, Clone, Resize, Label, Write, Fill, Read, Flush, Gc, List as Listing, Stat}
 use Rattle.sm_machine.specs.Disks.{Disk, filled, is_disk, on_disk, overwritten, sector_bytes, sectors_of_bytes, with_disk}
 use Rattle.sm_machine.specs.Shapes.{Shape, Attachment, DiskRecord, attached_as, is_ro}
-use Rattle.sm_machine.specs.Refusals.{is_tracked, is_not_attached, is_outside, is_out_of_range, is_read_only, is_taken, new_uuid, refusal, rounded}
+use Rattle.sm_machine.specs.Refusals.{is_tracked, is_not_attached, is_outside, is_out_of_range, is_read_only, is_snapshot, is_taken, new_uuid, refusal, rounded}
 use Rattle.sm_machine.specs.Runs.{HasSector}
 use Rattle.sm_machine.specs.Steps.{State, accepted, disks_next, fork_disks, grown_disk, written_disk}
-use Rattle.sm_machine.specs.Tracking.{AreGoodLogs, begun, disk_pieces, ended, log_room, logs_after, tracked_step, tracked_unless}
+use Rattle.sm_machine.specs.Tracking.{AreGoodLogs, AreOfSnapshots, begun, disk_pieces, ended, log_room, logs_after, tracked_step, tracked_unless}
 use Rattle.sm_machine.specs.WellFormed.{AreDisksOf, HasRecord, IsWellFormed, record_of}
 use Rattle.sm_machine.proofs.Forks.{IsForkable, recorded}
 use Rattle.sm_machine.proofs.Fresh
-use Rattle.sm_machine.proofs.LogDisks.{IsOfDisk, disk_recorded, disk_there, its_record, log_disk}
+use Rattle.sm_machine.proofs.LogDisks.{IsOfDisk, disk_recorded, disk_snapshot, disk_there, its_record, log_disk}
 use Rattle.sm_machine.proofs.LogLists.{no_log}
 use Rattle.sm_machine.proofs.Passed.{IsPassed, passed}
 use Rattle.sm_machine.proofs.Steps.{clone_facts, snapshot_facts}
@@ -121,7 +121,7 @@ had_same u f keeps disks v k x h =
 
 -- ---- from one state to the next
 
-module _ (disks : List Disk) (s : Shape) (w : IsWellFormed s) (a : AreDisksOf disks s) (g : AreGoodLogs s) (tells : Tells (HasSector disks) s.logs) where
+module _ (disks : List Disk) (s : Shape) (w : IsWellFormed s) (a : AreDisksOf disks s) (g : AreGoodLogs s) (marked : AreOfSnapshots s) (tells : Tells (HasSector disks) s.logs) where
   -- disks with logs show nothing new
   elsewhere : (new : List Disk) → ((l : Log) → In l s.logs → Had disks new l.disk) → Tells (HasSector new) s.logs
   elsewhere new had = tells_elsewhere (HasSector disks) (HasSector new) s.logs s.logs tells (λ l h. h) (λ l k x h. had l h k x)
@@ -153,14 +153,15 @@ module _ (disks : List Disk) (s : Shape) (w : IsWellFormed s) (a : AreDisksOf di
           let r : sector + count ≤ length d.0.sectors = within disks s w a u sector count in_range d.0 d.1 (d.2 ∙ e) in
           let up : length d.0.sectors ≤ piece_count (length d.0.sectors) * 128 = le-div_up (length d.0.sectors) 128 (omega arith) in
           let free : d.0.read_only ≡ false = not_marked d.0 d.1 (d.2 ∙ e) in
-          (untagged l d.0 o free, omega (arith, r, up, o.pieces))
+          (untagged l h d.0 d.1 d.2 free, omega (arith, r, up, o.pieces))
         where
-          untagged : (l : Log) (d : Disk) → IsOfDisk d l → d.read_only ≡ false → l.tag ≡ 0
-          untagged l d o free = by l.tag refl
+          untagged : (l : Log) → In l s.logs → (d : Disk) → In d disks → d.uuid ≡ l.disk → d.read_only ≡ false → l.tag ≡ 0
+          untagged l h d i n free = by l.tag refl
             where
               by : (t : ℕ) → l.tag ≡ t → l.tag ≡ 0
               by zero e = e
-              by (suc t) e = let m : d.read_only ≡ true = o.snapshot (λ z. let q : suc t ≡ 0 = sym e ∙ z in absurd (omega (arith, q))) in cc
+              by (suc t) e = let m : is_snapshot l.disk s ≡ true = marked l h (λ z. let q : suc t ≡ 0 = sym e ∙ z in absurd (omega (arith, q))) in
+                  let r : is_snapshot l.disk s ≡ d.read_only = disk_snapshot disks s w a d l.disk i n in cc
 
           not_marked : (d : Disk) → In d disks → d.uuid ≡ u → d.read_only ≡ false
           not_marked d h e = by_mode (find (λ (b : Attachment). bytes_eq b.disk u) s.attached) refl
@@ -279,16 +280,16 @@ module _ (disks : List Disk) (s : Shape) (w : IsWellFormed s) (a : AreDisksOf di
   next_tells Listing p = tells
   next_tells Stat p = tells
 
-tells_by : (σ : State) (c : Command) (o : Option Refusal) → refusal σ.shape c ≡ o → IsWellFormed σ.shape → AreDisksOf σ.disks σ.shape → AreGoodLogs σ.shape
+tells_by : (σ : State) (c : Command) (o : Option Refusal) → refusal σ.shape c ≡ o → IsWellFormed σ.shape → AreDisksOf σ.disks σ.shape → AreGoodLogs σ.shape → AreOfSnapshots σ.shape
     → Tells (HasSector σ.disks) σ.shape.logs → Tells (HasSector ((tracked_unless o σ c).after.disks)) ((tracked_unless o σ c).after.shape.logs)
 unfolding accepted
-tells_by σ c (Some r) e w a g tells = tells
-tells_by σ c None e w a g tells = next_tells σ.disks σ.shape w a g tells c (passed σ.shape c e)
+tells_by σ c (Some r) e w a g marked tells = tells
+tells_by σ c None e w a g marked tells = next_tells σ.disks σ.shape w a g marked tells c (passed σ.shape c e)
 
-pub tracked_step_tells : (σ : State) (c : Command) → IsWellFormed σ.shape → AreDisksOf σ.disks σ.shape → AreGoodLogs σ.shape
+pub tracked_step_tells : (σ : State) (c : Command) → IsWellFormed σ.shape → AreDisksOf σ.disks σ.shape → AreGoodLogs σ.shape → AreOfSnapshots σ.shape
     → Tells (HasSector σ.disks) σ.shape.logs → Tells (HasSector ((tracked_step σ c).after.disks)) ((tracked_step σ c).after.shape.logs)
 unfolding tracked_step
-tracked_step_tells σ c w a g tells = tells_by σ c (refusal σ.shape c) refl w a g tells
+tracked_step_tells σ c w a g marked tells = tells_by σ c (refusal σ.shape c) refl w a g marked tells
 
 -- ---- tracking begins, and ends
 

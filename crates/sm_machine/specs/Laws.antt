@@ -21,7 +21,7 @@ use Rattle.sm_machine.specs.Runs.{HasSector}
 use Rattle.sm_machine.specs.Steps.{State, is_attached, shape_next, step}
 use Rattle.sm_machine.specs.Commits.{commits}
 use Rattle.sm_machine.specs.Refusals.{log_need, refusal}
-use Rattle.sm_machine.specs.Tracking.{AreGoodLogs, AreUntracked, begun, ended, log_commits, log_room, logs_after, tracked, tracked_step}
+use Rattle.sm_machine.specs.Tracking.{AreGoodLogs, AreOfSnapshots, AreUntracked, begun, ended, log_commits, log_room, logs_after, tracked, tracked_step}
 use Rattle.sm_machine.specs.WellFormed.{AreDisksOf, HasRecord, IsOperation, IsSize, IsWellFormed}
 
 -- a refused command changes neither disks nor shape
@@ -150,10 +150,14 @@ TrackedRoom = (s : Shape) (c : Command) → IsWellFormed s → refusal s c ≡ N
 abbrev pub TrackedStepKeepsLogs : Type 0
 TrackedStepKeepsLogs = (σ : State) (c : Command) → IsWellFormed σ.shape → AreGoodLogs σ.shape → AreGoodLogs ((tracked_step σ c).after.shape)
 
+-- each log with a tag stays that of a snapshot
+abbrev pub TrackedStepKeepsSnapshots : Type 0
+TrackedStepKeepsSnapshots = (σ : State) (c : Command) → IsWellFormed σ.shape → AreGoodLogs σ.shape → AreOfSnapshots σ.shape → AreOfSnapshots ((tracked_step σ c).after.shape)
+
 -- a step with what it does to logs keeps true what these tell of disks: where sectors of two disks differ, of which one was begun where the
 -- other was taken, the later one's log names the piece
 abbrev pub TrackedStepTells : Type 0
-TrackedStepTells = (σ : State) (c : Command) → IsWellFormed σ.shape → AreDisksOf σ.disks σ.shape → AreGoodLogs σ.shape
+TrackedStepTells = (σ : State) (c : Command) → IsWellFormed σ.shape → AreDisksOf σ.disks σ.shape → AreGoodLogs σ.shape → AreOfSnapshots σ.shape
     → Tells (HasSector σ.disks) σ.shape.logs → Tells (HasSector ((tracked_step σ c).after.disks)) ((tracked_step σ c).after.shape.logs)
 
 -- a step with what it does to logs keeps disks and shape together
@@ -176,12 +180,14 @@ pub record TrackedStepFollows : Type 0 where
 pub record TrackingBegins : Type 0 where
   pub shape : (s : Shape) (u : List ℕ) → IsWellFormed s → AreGoodLogs s → log_room s u ≤ free s → IsWellFormed (begun s u)
   pub logs : (s : Shape) (u : List ℕ) → IsWellFormed s → AreGoodLogs s → HasRecord s u → log_of u s.logs ≡ None → AreGoodLogs (begun s u)
+  pub snapshots : (s : Shape) (u : List ℕ) → AreOfSnapshots s → AreOfSnapshots (begun s u)
   pub tells : (disks : List Disk) (s : Shape) (u : List ℕ) → Tells (HasSector disks) s.logs → Tells (HasSector disks) (begun s u).logs
 
 -- tracking ends: the shape stays well-formed, logs stay good, and what they tell stays true
 pub record TrackingEnds : Type 0 where
   pub shape : (s : Shape) (u : List ℕ) → IsWellFormed s → AreGoodLogs s → IsWellFormed (ended s u)
   pub logs : (s : Shape) (u : List ℕ) → IsWellFormed s → AreGoodLogs s → AreGoodLogs (ended s u)
+  pub snapshots : (s : Shape) (u : List ℕ) → AreOfSnapshots s → AreOfSnapshots (ended s u)
   pub tells : (disks : List Disk) (s : Shape) (u : List ℕ) → Tells (HasSector disks) s.logs → Tells (HasSector disks) (ended s u).logs
 
 -- a shape without logs has good ones

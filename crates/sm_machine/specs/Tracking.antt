@@ -111,15 +111,13 @@ ended s u = with_logs (without_log u s.logs) 1 s
 
 -- ---- which logs there are
 
--- a log is that of a disk: it has a bit for each piece, and extents for its sectors; its numbers were used; one with a tag is that of a
--- snapshot
+-- a log is that of a disk: it has a bit for each piece, and extents for its sectors; its numbers were used
 pub record IsGoodLog (s : Shape) (l : Log) : Type 0 where
   pub disk : HasRecord s l.disk
   pub pieces : (i : ImageRow) → disk_image l.disk s ≡ Some i → length l.bits ≡ piece_count i.size
   pub room : log_sectors (length l.bits) ≤ l.extents * s.extent
   pub tag : l.tag < s.sequence
   pub since : l.since < s.sequence
-  pub snapshot : l.tag ≢ 0 → is_snapshot l.disk s ≡ true
 
 -- logs are in order of UUID, at most one for each disk; no two have one tag, other than 0; their extents are among those of others
 pub record AreGoodLogs (s : Shape) : Type 0 where
@@ -128,6 +126,10 @@ pub record AreGoodLogs (s : Shape) : Type 0 where
   pub good : (l : Log) → In l s.logs → IsGoodLog s l
   pub one_tag : (a b : Log) → In a s.logs → In b s.logs → a.tag ≡ b.tag → a.tag ≢ 0 → a ≡ b
   pub within : log_extents s.logs ≤ s.others
+
+-- each log with a tag is that of a snapshot
+abbrev pub AreOfSnapshots : Shape → Type 0
+AreOfSnapshots s = (l : Log) → In l s.logs → l.tag ≢ 0 → is_snapshot l.disk s ≡ true
 
 -- no disk is tracked
 abbrev pub AreUntracked : Shape → Type 0

@@ -130,6 +130,7 @@ name_le a b = not (is_lt (name_cmp b a))
 abbrev pub uuid_le : List ℕ → List ℕ → Bool
 uuid_le u v = not (uuid_before v u)
 
+-- what holds of each shape that a repository comes to have, field by field
 pub record IsWellFormed (s : Shape) : Type 0 where
   -- the repository's numbers; an extent is a whole number of blocks
   pub geometry : IsGeometry s.extent s.block s.entries

@@ -1,6 +1,6 @@
 //! Laws of the machine. Each function does nothing: its clause is the law, and the check proves it.
 
-ghost use Rattle.sm_machine.specs.Laws.{CollectorKeepsDisks, ExtentsKeepShape, IdleIsDone, NewHasNoDisks, NewIsWellFormed, RefusedKeeps, SizeKeepsShape, StepKeepsDisks, StepKeepsShape, StepLowersDebt, TrackedRoom, TrackedStepFollows, TrackedStepKeepsDisks, TrackedStepKeepsLogs, TrackedStepKeepsShape, TrackedStepTells, TrackingBegins, TrackingEnds, UntrackedIsGood, UsesFollow};
+ghost use Rattle.sm_machine.specs.Laws.{CollectorKeepsDisks, ExtentsKeepShape, IdleIsDone, NewHasNoDisks, NewIsWellFormed, RefusedKeeps, SizeKeepsShape, StepKeepsDisks, StepKeepsShape, StepLowersDebt, TrackedRoom, TrackedStepFollows, TrackedStepKeepsDisks, TrackedStepKeepsLogs, TrackedStepKeepsShape, TrackedStepKeepsSnapshots, TrackedStepTells, TrackingBegins, TrackingEnds, UntrackedIsGood, UsesFollow};
 
 /// A refused command changes neither disks nor shape.
 pub fn refused_step_keeps()
@@ -58,9 +58,10 @@ pub fn tracked_step_keeps_shape()
     ensures room { TrackedRoom }
 {}
 
-/// A step with what it does to logs keeps them good.
+/// A step with what it does to logs keeps them good, and each with a tag that of a snapshot.
 pub fn tracked_step_keeps_logs()
-    ensures { TrackedStepKeepsLogs }
+    ensures logs { TrackedStepKeepsLogs }
+    ensures snapshots { TrackedStepKeepsSnapshots }
 {}
 
 /// What logs tell of disks stays true over a step.
