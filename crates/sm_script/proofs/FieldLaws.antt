@@ -1,6 +1,6 @@
 -- The values that the libraries read, and those that the words of a line spell.
-use Rattle.std.proofs.Common.{◌≡◌, ℕ, ◌+◌, ◌*◌, ◌/◌, ◌%◌, ◌^◌, ◌<◌, ◌≤◌, ◌==◌, ◌⊎◌, inl, inr, Bool, true, false, ◌&&◌, List, [], ◌∷◌, length, slice_index, Option, Some, None, Result, Ok, Err, IsOk, IfOk, MatchResult, ◌↔◌, if◌then◌else◌, nat_lt, nat_le, Bor, arith, refl, sym, ap, subst, ◌∙◌}
-use Rattle.std.specs.Prelude.{not, ◌||◌, ⊤}
+use Rattle.std.proofs.Common.{◌≡◌, ℕ, ◌%◌, ◌^◌, ◌<◌, ◌≤◌, ◌==◌, ◌⊎◌, inl, inr, Bool, true, false, ◌&&◌, List, [], ◌∷◌, length, slice_index, Option, Some, None, Result, Ok, Err, IsOk, IfOk, MatchResult, ◌↔◌, if◌then◌else◌, nat_lt, nat_le, Bor, arith, refl, sym, ap, subst, ◌∙◌}
+use Rattle.std.specs.Prelude.{not, ◌||◌}
 use Rattle.std.specs.List.{list_all}
 use Rattle.std.specs.Char.{is_ascii_digit}
 use Rattle.std.specs.Result.{result_ok, OkIff}
@@ -11,13 +11,8 @@ use Rattle.std.proofs.lemmas.Bool.Decides.{nat_tests}
 use Rattle.std.proofs.lemmas.Str.{IsUtf8-from_ascii}
 use Rattle.std.proofs.lemmas.Str.Parse.{IsNumeralModel, numerals_by_value, tells_all_ascii_digits, parse_digits}
 use Rattle.std.proofs.lemmas.Fmt.{IsAscii-from_digits}
-use Rattle.uuid.specs.Text.{parsed, hex_digit_value}
-use Rattle.hex.specs.Hex.{hex_digit_value as table_value, decode_pairs, decode_sized}
-use Rattle.hex.proofs.HexLemmas.{decode_sized-twice}
-use Rattle.hex.specs.declared.error.FromHexError.{FromHexError}
-use Rattle.sm_machine.specs.Lines.{byte_of, hex_bytes, is_number, number_of, sectors_of, uuid_of}
-use Rattle.common_laws.specs.Lists.{◌>>=◌}
-use Rattle.sm_script.proofs.HexPairs.{with_pair, decode_pairs-pair, decode_pairs-none, decode_pairs-one, decode_of-pairs, decode_sized-none, decode_sized-one, decode_sized-two, decode_sized-long}
+use Rattle.uuid.specs.Text.{parsed}
+use Rattle.sm_machine.specs.Lines.{hex_bytes, is_number, number_of, sectors_of, uuid_of}
 
 -- UUIDs
 
@@ -127,87 +122,7 @@ pub number_read : {E : Type 0} (r : Result ℕ E) (text word : List ℕ) → tex
 number_read r text word same h told =
     number_by r word h (parse_digits own 64 word r (subst (λ (t : List ℕ). ParsesUnsigned 64 10 t r) same told) (number_parts word h).1)
 
--- hexadecimal digits
-
-same_value : (c : ℕ) → table_value c ≡ hex_digit_value c
-same_value c = grind (arith, nat_tests)
-
-bytes_step : (o p : Option ℕ) (rest : Option (List ℕ)) → with_pair o p rest ≡ (o >>= (λ h. p >>= (λ l. rest >>= (λ bytes. Some ((h * 16 + l) ∷ bytes)))))
-bytes_step None p rest = refl
-bytes_step (Some h) None rest = refl
-bytes_step (Some h) (Some l) None = refl
-bytes_step (Some h) (Some l) (Some bytes) = refl
-
-pub decode-hex_bytes : (i : ℕ) (word : List ℕ) → result_ok (decode_pairs i word) ≡ hex_bytes word
-unfolding hex_bytes
-decode-hex_bytes i [] = sym (decode_pairs-none i)
-decode-hex_bytes i (digit ∷ []) = sym (decode_pairs-one i digit)
-decode-hex_bytes i (high ∷ low ∷ word) =
-    sym (decode_pairs-pair i high low word)
-    ∙ ap (λ o. with_pair o (table_value low) (result_ok (decode_pairs (i + 2) word))) (same_value high)
-    ∙ ap (λ o. with_pair (hex_digit_value high) o (result_ok (decode_pairs (i + 2) word))) (same_value low)
-    ∙ ap (with_pair (hex_digit_value high) (hex_digit_value low)) (decode-hex_bytes (i + 2) word)
-    ∙ bytes_step (hex_digit_value high) (hex_digit_value low) (hex_bytes word)
-
--- one byte
-
-first_of : Option (List ℕ) → Option ℕ
-first_of None = None
-first_of (Some bytes) = Some (slice_index bytes 0)
-
-byte_step : (o p : Option ℕ) → first_of (with_pair o p (Some [])) ≡ (o >>= (λ h. p >>= (λ l. Some (h * 16 + l))))
-unfolding first_of
-byte_step None p = refl
-byte_step (Some h) None = refl
-byte_step (Some h) (Some l) = refl
-
-byte_decoded : (word : List ℕ) → first_of (result_ok (decode_sized word 1)) ≡ byte_of word
-unfolding byte_of first_of
-byte_decoded [] = ap first_of (sym decode_sized-none)
-byte_decoded (a ∷ []) = ap first_of (sym (decode_sized-one a))
-byte_decoded (a ∷ b ∷ []) =
-    ap (λ r. first_of (result_ok r)) (decode_sized-two a b)
-    ∙ ap first_of (sym (decode_pairs-pair 0 a b []))
-    ∙ ap (λ o. first_of (with_pair o (table_value b) (result_ok (decode_pairs 2 [])))) (same_value a)
-    ∙ ap (λ o. first_of (with_pair (hex_digit_value a) o (result_ok (decode_pairs 2 [])))) (same_value b)
-    ∙ ap (λ o. first_of (with_pair (hex_digit_value a) (hex_digit_value b) o)) (sym (decode_pairs-none 2))
-    ∙ byte_step (hex_digit_value a) (hex_digit_value b)
-byte_decoded (a ∷ b ∷ c ∷ word) = ap first_of (sym (decode_sized-long a b c word))
-
-pub byte_read : (word out : List ℕ) (r : Result ⊤ FromHexError) (u : ⊤) → r ≡ Ok u
-    → MatchResult (decode_sized word 1) (λ bytes. (r ≡ Ok tt) × (out ≡ bytes)) (λ e. r ≡ Err e) → Some (slice_index out 0) ≡ byte_of word
-unfolding first_of
-byte_read word out r u ok told = by (decode_sized word 1) told ∙ byte_decoded word
-  where
-    by : (d : Result (List ℕ) FromHexError) → MatchResult d (λ bytes. (r ≡ Ok tt) × (out ≡ bytes)) (λ e. r ≡ Err e) → Some (slice_index out 0) ≡ first_of (result_ok d)
-    by (Ok bytes) t = ap (λ (l : List ℕ). Some (slice_index l 0)) t.1
-    by (Err e) t = cc (ok, t)
-
-pub byte_none : (word out : List ℕ) (r : Result ⊤ FromHexError) (e : FromHexError) → r ≡ Err e
-    → MatchResult (decode_sized word 1) (λ bytes. (r ≡ Ok tt) × (out ≡ bytes)) (λ e. r ≡ Err e) → None ≡ byte_of word
-unfolding first_of
-byte_none word out r e err told = by (decode_sized word 1) told ∙ byte_decoded word
-  where
-    by : (d : Result (List ℕ) FromHexError) → MatchResult d (λ bytes. (r ≡ Ok tt) × (out ≡ bytes)) (λ e. r ≡ Err e) → None ≡ first_of (result_ok d)
-    by (Ok bytes) t = cc (err, t.0)
-    by (Err x) t = refl
-
 -- whole sectors
-
--- what is decoded into half as many bytes as there are digits
-pub hex_decoded : (word out : List ℕ) (n : ℕ) (r : Result ⊤ FromHexError) → length word % 1024 ≡ 0 → n ≡ length word / 2
-    → MatchResult (decode_sized word n) (λ bytes. (r ≡ Ok tt) × (out ≡ bytes)) (λ e. r ≡ Err e)
-    → MatchResult r (λ _. hex_bytes word ≡ Some out) (λ _. hex_bytes word ≡ None)
-hex_decoded word out n r whole half told =
-    let twice : length word ≡ 2 * n = omega arith in
-    by (decode_sized word n) r told (ap result_ok (decode_sized-twice word n twice ∙ decode_of-pairs word whole) ∙ decode-hex_bytes 0 word)
-  where
-    by : (d : Result (List ℕ) FromHexError) (r : Result ⊤ FromHexError) → MatchResult d (λ bytes. (r ≡ Ok tt) × (out ≡ bytes)) (λ e. r ≡ Err e)
-        → result_ok d ≡ hex_bytes word → MatchResult r (λ _. hex_bytes word ≡ Some out) (λ _. hex_bytes word ≡ None)
-    by (Ok bytes) (Ok u) t same = sym same ∙ ap (λ (l : List ℕ). Some l) (sym t.1)
-    by (Ok bytes) (Err e) t same = cc t.0
-    by (Err x) (Ok u) t same = cc t
-    by (Err x) (Err e) t same = sym same
 
 -- a word of as many digits as whole sectors have
 pub sectors_whole : (word : List ℕ) → false ≡ (length word == 0) → length word % 1024 ≡ 0 → hex_bytes word ≡ sectors_of word

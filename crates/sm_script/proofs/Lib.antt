@@ -1,6 +1,6 @@
 pub mod CutLaws
+pub mod DigitLaws
 pub mod FieldLaws
-pub mod HexPairs
 pub mod HexTexts
 pub mod LineLaws
 pub mod PartLaws

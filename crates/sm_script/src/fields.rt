@@ -2,13 +2,13 @@
 //! spells none. `uuid` takes other forms of text too, and std a sign and leading zeros: those are refused
 //! first.
 
-ghost use Rattle.std.specs.Prelude.{◌≡◌, ◌<◌, ◌≤◌, ◌/◌, ◌%◌, None, Some, MatchResult, length, vec_capacity};
+ghost use Rattle.std.specs.Prelude.{◌≡◌, ◌<◌, ◌≤◌, ◌/◌, ◌%◌, None, Some, MatchOption, length, vec_capacity};
 ghost use Rattle.std.specs.Char.{is_ascii_digit};
 ghost use Rattle.std.specs.List.{list_all};
 ghost use Rattle.std.specs.Result.{result_ok};
 ghost use Rattle.sm_machine.specs.Lines.{byte_of, hex_bytes, is_number, is_raw_of, mode_of, number_of, sectors_of, uuid_of, line_limit};
 
-use hex::FromHexError;
+use crate::digits::decode_pairs;
 use sm_base::Mode;
 use sm_machine::LineBytes;
 use std::str;
@@ -83,11 +83,12 @@ pub fn mode_in(word: &[u8]) -> Option<Mode>
 pub fn byte_in(word: &[u8]) -> Option<u8>
     ensures { result ≡ byte_of word.now }
 {
-    let mut byte = [0];
-    match hex::decode_to_slice(word, &mut byte) {
-        Ok(()) => Some(byte[0]),
-        Err(_) => None,
+    if word.len() != 2 {
+        return None;
     }
+    let mut byte = [0];
+    decode_pairs(word, &mut byte)?;
+    Some(byte[0])
 }
 
 /// The bytes of whole sectors, at least one: 1,024 hexadecimal digits for each. They take the place of what the room
@@ -100,20 +101,20 @@ pub fn sectors_in(word: &[u8], mut room: LineBytes) -> Result<LineBytes, LineByt
         return Err(room);
     }
     match decode(word, &mut room.bytes) {
-        Ok(()) => Ok(room),
-        Err(_) => Err(room),
+        Some(()) => Ok(room),
+        None => Err(room),
     }
 }
 
 // The bytes of pairs of digits, in place of what there was. There is room for them, so no memory is taken.
-fn decode(word: &[u8], bytes: &mut Vec<u8>) -> Result<(), FromHexError>
+fn decode(word: &[u8], bytes: &mut Vec<u8>) -> Option<()>
     requires whole { length word.now % 1024 ≡ 0 }
     requires room { length word.now / 2 ≤ vec_capacity bytes.old }
-    ensures decoded { MatchResult result (λ _. hex_bytes word.now ≡ Some bytes.new.items) (λ _. hex_bytes word.now ≡ None) }
+    ensures decoded { MatchOption result (hex_bytes word.now ≡ None) (λ _. hex_bytes word.now ≡ Some bytes.new.items) }
     ensures room { vec_capacity bytes.old ≤ vec_capacity bytes.new }
 {
     if bytes.resize(word.len() / 2, 0).is_err() {
         unreachable!();
     }
-    hex::decode_to_slice(word, bytes)
+    decode_pairs(word, bytes)
 }

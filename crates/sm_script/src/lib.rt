@@ -26,6 +26,7 @@
 #![tactic(auto)]
 
 mod cuts;
+mod digits;
 mod fields;
 mod lines;
 mod listings;

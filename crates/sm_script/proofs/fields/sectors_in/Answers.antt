@@ -11,8 +11,8 @@ returns-then-is_empty c =
       | then-is_empty-via-else-is_empty+then-word-ne0 w ↦ λ _ whole. w.if-word-ne0.true whole
     ]))
 
-pub returns-in-Ok : goal.returns-in-Ok
-returns-in-Ok c = sym c.in-Ok.ensures.decoded ∙ sectors_whole c.args.word.now c.if-is_empty.ensures c.if-word-ne0.false
+pub returns-in-Some : goal.returns-in-Some
+returns-in-Some c = sym c.in-Some.ensures.decoded ∙ sectors_whole c.args.word.now c.if-is_empty.ensures c.if-word-ne0.false
 
-pub returns-in-Err : goal.returns-in-Err
-returns-in-Err c = sym c.in-Err.ensures.decoded ∙ sectors_whole c.args.word.now c.if-is_empty.ensures c.if-word-ne0.false
+pub returns-in-None : goal.returns-in-None
+returns-in-None c = sym c.in-None.ensures.decoded ∙ sectors_whole c.args.word.now c.if-is_empty.ensures c.if-word-ne0.false
