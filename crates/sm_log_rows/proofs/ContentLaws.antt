@@ -3,10 +3,8 @@ use Rattle.std.proofs.Common.{◌≡◌, ℕ, ◌*◌, Bool, true, false, not, �
 use Rattle.std.specs.Prelude.{nat_lt, if◌then◌else◌}
 use Rattle.std.proofs.Math.Path.{fun_ext}
 use Rattle.std.specs.Ordering.{is_lt}
-use Rattle.std.specs.Cmp.{IsTotalOrder}
 use Rattle.std.specs.List.{filter, filter_map, find}
 use Rattle.std.proofs.lemmas.Bool.{true≢false, and_from, and_parts, lt-ltb, ltb-true}
-use Rattle.std.proofs.lemmas.Cmp.{nat_list_cmp_total}
 use Rattle.common_laws.specs.Lists.{numbers, ◌>>=◌}
 use Rattle.common_laws.proofs.Booleans.{not_true}
 use Rattle.sm_base.specs.Names.{name_cmp}
@@ -30,13 +28,14 @@ use Rattle.sm_standing.specs.Images.{Image, image_extents, image_of, raw_image, 
 use Rattle.sm_standing.specs.Keeping.{HoldsWell, IsKept}
 use Rattle.sm_standing.specs.LogChecks.{is_log_right, is_log_wrong, is_wrong_log, log_fault, log_wrong_as, logs_before, pieces_in, standing_pieces}
 use Rattle.sm_standing.specs.Logs.{log_at, log_read, logs}
-use Rattle.sm_log_rows.specs.Dropped.{is_useless, is_useless_as}
+use Rattle.sm_standing.specs.Dropped.{is_useless, is_useless_as}
 use Rattle.sm_standing.specs.Outlines.{Link, Outline, link_of, outline}
 use Rattle.sm_standing.specs.Standing.{disks, standing_volume}
 use Rattle.sm_standing.proofs.DisksShown.{row_of-In}
 use Rattle.sm_standing.proofs.FaultLaws.{named_none}
 use Rattle.sm_standing.proofs.ImageLaws.{disks_as}
 use Rattle.sm_standing.proofs.LogLaws.{first_wrong, found_row, has_volume, in_list, listed, log_cmp, logs_rise}
+use Rattle.sm_standing.proofs.LogPassLaws.{log_total}
 use Rattle.sm_standing.proofs.Orders.{rising_ext}
 use Rattle.sm_log_rows.specs.LogRows.{AreApartFromLogs, IsDropping, with_table}
 use Rattle.sm_log_rows.proofs.ApartLaws.{log_rows_sound, makes, standing_alike}
@@ -105,13 +104,6 @@ module _ (c : Content) (u : VolumeTable) (k : AreApartFromLogs c.table u) where
       record { sound = sound_apart kept.sound; holding = well.holding; linking = well.linking }
 
 -- ---- the other logs
-
-log_total : IsTotalOrder log_cmp
-log_total = record {
-  antisymm = λ x y. nat_list_cmp_total.antisymm x.disk y.disk;
-  trans = λ x y z. nat_list_cmp_total.trans x.disk y.disk z.disk;
-  congr = λ x y z. nat_list_cmp_total.congr x.disk y.disk z.disk;
-}
 
 module _ (c : Content) (u : VolumeTable) (table : IsTable c.count c.table) (less : IsTable c.count u) (d : IsDropping c.table u) where
   abbrev later : Content

@@ -24,7 +24,7 @@ use Rattle.vg_meta.proofs.SpliceLaws.{length-without}
 use Rattle.vg_meta.proofs.WriteLaws.{length-text}
 use Rattle.sm_standing.specs.Checks.{first_name, name_in}
 use Rattle.sm_standing.specs.Opened.{applied_all}
-use Rattle.sm_log_rows.specs.Dropped.{drop_changes, dropped, first_useless, is_useless, is_useless_as}
+use Rattle.sm_standing.specs.Dropped.{drop_changes, dropped, first_useless, is_useless, is_useless_as}
 use Rattle.sm_standing.proofs.LogLaws.{found_row}
 use Rattle.sm_log_rows.specs.LogRows.{AreApartFromLogs, IsDropping}
 use Rattle.sm_log_rows.proofs.ApartLaws.{standing_alike}

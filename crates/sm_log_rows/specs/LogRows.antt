@@ -8,7 +8,7 @@ use Rattle.sm_base.specs.declared.names.Name.TheVariants.{Cbt}
 use Rattle.vg_meta.specs.Tables.{Row, VolumeTable, rows}
 use Rattle.vg_meta.specs.declared.changes.Change.{Change}
 use Rattle.vg_meta.specs.declared.changes.Change.TheVariants.{Create, Remove, Rename, Grow, Cut, Mark}
-use Rattle.sm_log_rows.specs.Dropped.{is_useless}
+use Rattle.sm_standing.specs.Dropped.{is_useless}
 use Rattle.sm_standing.specs.Contents.{Content}
 use Rattle.sm_standing.specs.Outlines.{Outline}
 use Rattle.sm_standing.specs.Standing.{candidates}

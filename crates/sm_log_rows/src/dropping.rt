@@ -7,7 +7,7 @@ ghost use Rattle.vg_meta.specs.Tables.{IsTable, VolumeTable};
 ghost use Rattle.vg_meta.specs.Text.{text};
 ghost use Rattle.vg_meta.specs.declared.changes.Change.TheVariants.{Remove};
 ghost use Rattle.sm_standing.specs.Checks.{fault_of};
-ghost use Rattle.sm_log_rows.specs.Dropped.{drop_changes, dropped, first_useless, is_useless};
+ghost use Rattle.sm_standing.specs.Dropped.{drop_changes, dropped, first_useless, is_useless};
 ghost use Rattle.sm_standing.specs.Opened.{applied_all};
 ghost use Rattle.sm_standing.specs.Outlines.{Outline};
 ghost use Rattle.sm_standing.specs.Standing.{standing_volume, uuids};

@@ -4,8 +4,6 @@
 //! do nothing, and their clauses are the laws: of one such change (`law_log_row`), of tables and of contents in which each volume but a log is the same
 //! (`law_apart`, `law_apart_content`), and of the logs that an opening removes first, one after the other (`law_dropped`, `law_dropping`).
 //!
-//! The program does not use this crate yet.
-//!
 //! The definitions are in `specs/`: `LogRows` (which changes are of a log's row, and tables that are alike but for logs).
 #![tactic(auto)]
 

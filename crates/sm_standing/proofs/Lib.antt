@@ -10,6 +10,7 @@ pub mod ImageLaws
 pub mod WorldLaws
 pub mod FaultLaws
 pub mod LogLaws
+pub mod LogPassLaws
 pub mod OutlineLaws
 pub mod ImageSectors
 pub mod NamedLaws

@@ -1,6 +1,6 @@
 -- The logs of a content, one by one and as a list, and what the check of them says.
 use Rattle.std.proofs.Common.{◌≡◌, ◌≢◌, ℕ, ◌*◌, ◌≤◌, ◌⊎◌, inl, inr, ⊎_elim, Bool, true, false, not, ◌&&◌, ◌||◌, ◌==◌, cond, List, [], ◌∷◌, length, map, Option, Some, None, is_some, refl, sym, ap, ap₂, subst, ◌∙◌}
-use Rattle.std.specs.Prelude.{if◌then◌else◌}
+use Rattle.std.specs.Prelude.{IsSome, if◌then◌else◌}
 use Rattle.std.specs.List.{AllByRecursion, filter, filter_map, find, list_any}
 use Rattle.std.specs.List.Sorted.{IsStrictlySortedBy}
 use Rattle.std.specs.Ordering.{is_lt, ordering_reverse}
@@ -137,14 +137,41 @@ log_listed c u = by (is_some (standing_volume c.table u)) refl (log_of u (logs c
     by false absent (Some l) found = absurd (true≢false (sym (here l found).1 ∙ absent))
     by false absent None found = refl
 
--- where each log is that of a disk, they are all
-pub all_logged : (c : Content) → AreLogsOfDisks c → IsLogged c (logs c)
-all_logged c each u = by (is_some (standing_volume c.table u)) refl (log_at c u) refl
+-- a volume of a log that is not new, and whose disk is there, reads as a log where the check passes
+pub reads_some : (c : Content) (u : List ℕ) (r : Row) → log_fault c ≡ None → In r c.table.volumes → r.name ≡ Cbt u → r.fresh ≡ false → is_some (standing_volume c.table u) ≡ true → IsSome (log_at c u)
+unfolding log_fault
+reads_some c u r none i named full stands = by (log_at c u) refl
   where
+    judged_as : (o : Option Log) → log_at c u ≡ o → is_log_wrong (standing_pieces c u) (size_of c (Cbt u)) (logs_before c u) c.table.sequence o ≡ false
+    judged_as o e =
+        let fails : is_wrong_log c r ≡ false = named_none at.Log (is_wrong_log c) c.table.volumes none r i in
+        let by_name : is_wrong_log c r ≡ log_wrong_as c (Cbt u) = ap₂ (λ (b : Bool) (n : Name). not b && log_wrong_as c n) full named in
+        let by_log : log_wrong_as c (Cbt u) ≡ is_log_wrong (standing_pieces c u) (size_of c (Cbt u)) (logs_before c u) c.table.sequence o =
+        ap₂ (λ (b : Bool) (x : Option Log). b && is_log_wrong (standing_pieces c u) (size_of c (Cbt u)) (logs_before c u) c.table.sequence x) stands e in
+        sym by_log ∙ sym by_name ∙ fails
+
+    by : (o : Option Log) → log_at c u ≡ o → IsSome o
+    by None e = absurd (true≢false (judged_as None e))
+    by (Some l) e = refl
+
+-- where each log is that of a disk, and the check passes, they are all
+pub all_logged : (c : Content) → AreLogsOfDisks c → log_fault c ≡ None → IsLogged c (logs c)
+all_logged c each none u = record { read = by (is_some (standing_volume c.table u)) refl (log_at c u) refl; there = there }
+  where
+    of_disk : (l : Log) → log_at c u ≡ Some l → is_some (standing_volume c.table u) ≡ true
+    of_disk l e =
+        let w = has_volume c u l e in
+        each u w.held (row_of-In c.table.volumes (Cbt u) w.held w.there).0 (row_of-name c.table.volumes (Cbt u) w.held w.there) w.filled
+
     by : (b : Bool) → is_some (standing_volume c.table u) ≡ b → (o : Option Log) → log_at c u ≡ o → o ≡ log_of u (logs c)
     by true stands o e = sym e ∙ sym (log_listed c u ∙ ap (λ (b : Bool). if b then log_at c u else None) stands)
     by false absent None e = sym (log_listed c u ∙ ap (λ (b : Bool). if b then log_at c u else None) absent)
-    by false absent (Some l) e = absurd (true≢false (sym (each u l e) ∙ absent))
+    by false absent (Some l) e = absurd (true≢false (sym (of_disk l e) ∙ absent))
+
+    there : (r : Row) → In r c.table.volumes → r.name ≡ Cbt u → r.fresh ≡ false → IsSome (log_of u (logs c))
+    there r i named full =
+        let stands = each u r i named full in
+        subst IsSome (sym (log_listed c u ∙ ap (λ (b : Bool). if b then log_at c u else None) stands)) (reads_some c u r none i named full stands)
 
 -- ---- the check
 

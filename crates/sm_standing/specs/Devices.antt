@@ -6,7 +6,7 @@ use Rattle.vg_layout.specs.Places.{area_place}
 use Rattle.vg_layout.specs.Opening.{GroupFound, StandsOn}
 use Rattle.sm_standing.specs.Contents.{Content}
 use Rattle.sm_standing.specs.Standing.{disks}
-use Rattle.sm_standing.specs.Keeping.{IsKept}
+use Rattle.sm_standing.specs.LogChecks.{IsKeptWithLogs}
 
 -- what stands on the extents of a group
 abbrev pub content_of : GroupFound → (ℕ → List ℕ) → Content
@@ -19,11 +19,11 @@ content_of g image = record {
   area = λ p. image (area_place g.plate.layout + p);
 }
 
--- a repository stands on the device, and it is kept
+-- a repository stands on the device, it is kept, and the check of its logs passes
 pub record IsKeptOn (sectors : ℕ) (image : ℕ → List ℕ) : Type 0 where
   pub group : GroupFound
   pub stands : StandsOn sectors image group
-  pub kept : IsKept (content_of group image)
+  pub kept : IsKeptWithLogs (content_of group image)
 
 -- a repository stands on the device, and these are its disks
 pub record Shows (sectors : ℕ) (image : ℕ → List ℕ) (ds : List Disk) : Type 0 where

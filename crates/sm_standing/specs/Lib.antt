@@ -6,11 +6,12 @@ pub mod Logs
 pub mod Outlines
 pub mod Answering
 pub mod Checks
-pub mod LogChecks
 pub mod Keeping
+pub mod LogChecks
 pub mod Devices
 pub mod Shapes
 pub mod Opened
+pub mod Dropped
 pub mod Plain
 pub mod Ordered
 pub mod PlainSound

@@ -15,8 +15,9 @@ use Rattle.vg_meta.specs.Tables.{Row}
 use Rattle.common_laws.specs.Lists.{In, first_some, ◌>>=◌}
 use Rattle.sm_log.specs.Logs.{Log, log_sectors, piece_count}
 use Rattle.sm_standing.specs.Checks.{first_fault, first_name, placed}
-use Rattle.sm_standing.specs.Contents.{Content, size_of}
+use Rattle.sm_standing.specs.Contents.{Content, row, size_of}
 use Rattle.sm_standing.specs.Images.{Image, image_of}
+use Rattle.sm_standing.specs.Keeping.{IsKept}
 use Rattle.sm_standing.specs.Logs.{log_at, logs}
 use Rattle.sm_standing.specs.Ordered.{Rising, uuid_cmp}
 use Rattle.sm_standing.specs.Standing.{standing_volume}
@@ -80,9 +81,9 @@ first_place c = first_some (first_fault c ∷ log_fault c ∷ [])
 
 -- ---- what passes
 
--- each log is that of a disk that is there
+-- each volume of a log that is not new is that of a disk that is there
 abbrev pub AreLogsOfDisks : Content → Type 0
-AreLogsOfDisks c = (u : List ℕ) (l : Log) → log_at c u ≡ Some l → is_some (standing_volume c.table u) ≡ true
+AreLogsOfDisks c = (u : List ℕ) (r : Row) → In r c.table.volumes → r.name ≡ Cbt u → r.fresh ≡ false → is_some (standing_volume c.table u) ≡ true
 
 -- a log stands in its volume, and its disk is there: it has a bit for each of the disk's pieces, the volume has the sectors for head and bits,
 -- and its numbers were used
@@ -100,6 +101,27 @@ pub record AreRightLogs (c : Content) (ls : List Log) : Type 0 where
   pub right : (l : Log) → In l ls → IsRightLog c l
   pub one_tag : (a b : Log) → In a ls → In b ls → a.tag ≡ b.tag → a.tag ≢ 0 → a ≡ b
 
+-- the log of a disk with so many pieces stands in its volume, and is right: the volume has the sectors for head and bits, and its numbers were used
+pub record HasRightLog (c : Content) (u : List ℕ) (count : ℕ) : Type 0 where
+  pub log : Log
+  pub here : log_at c u ≡ Some log
+  pub pieces : length log.bits ≡ count
+  pub room : log_sectors (length log.bits) ≤ log.extents * c.extent
+  pub tag : log.tag < c.table.sequence
+  pub since : log.since < c.table.sequence
+
+-- the logs of no two disks that are there have one tag, other than 0
+abbrev pub HaveOneTag : Content → Type 0
+HaveOneTag c = (u v : List ℕ) (a b : Log) → log_at c u ≡ Some a → log_at c v ≡ Some b → is_some (standing_volume c.table u) ≡ true → is_some (standing_volume c.table v) ≡ true
+    → a.tag ≡ b.tag → a.tag ≢ 0 → u ≡ v
+
+-- a log is another but for its bits and for the snapshot since which it has them
+pub record IsLogLike (m l : Log) : Type 0 where
+  pub disk : l.disk ≡ m.disk
+  pub extents : l.extents ≡ m.extents
+  pub tag : l.tag ≡ m.tag
+  pub pieces : length l.bits ≡ length m.bits
+
 -- the log of this disk is the first, by name, that fails the check of logs
 pub record IsFirstWrong (c : Content) (u : List ℕ) : Type 0 where
   pub held : Row
@@ -107,3 +129,16 @@ pub record IsFirstWrong (c : Content) (u : List ℕ) : Type 0 where
   pub named : held.name ≡ Cbt u
   pub wrong : is_wrong_log c held ≡ true
   pub first : (r : Row) → In r c.table.volumes → is_wrong_log c r ≡ true → is_lt (name_cmp r.name (Cbt u)) ≡ false
+
+-- ---- what stays
+
+-- The logs of a content stand in another: their volumes and what a read of them gives are the same, and the sequence number is no lower.
+pub record HasLogsOf (was now : Content) : Type 0 where
+  pub volumes : (u : List ℕ) → row now (Cbt u) ≡ row was (Cbt u)
+  pub logs : (u : List ℕ) → log_at now u ≡ log_at was u
+  pub sequence : was.table.sequence ≤ now.table.sequence
+
+-- a content is kept, and the check of its logs passes
+pub record IsKeptWithLogs (c : Content) : Type 0 where
+  pub kept : IsKept c
+  pub passes : log_fault c ≡ None

@@ -1,13 +1,13 @@
 -- The logs of tracked disks that stand in a repository (this project's format). The log of a disk is the volume CBT- with the disk's UUID.
 -- Its first sector is the head, from its second sector on it has one bit for each piece of the disk, the first piece in the most
 -- significant bit of the first byte. A log that is new, and one whose disk is not there, is no log of the repository's.
-use Rattle.std.specs.Prelude.{◌≡◌, ℕ, ◌+◌, ◌/◌, ◌%◌, Bool, List, length, map, Option, Some, None, is_some, if◌then◌else◌}
+use Rattle.std.specs.Prelude.{◌≡◌, ℕ, ◌+◌, ◌/◌, ◌%◌, Bool, false, List, length, map, Option, Some, None, IsSome, is_some, if◌then◌else◌}
 use Rattle.std.specs.List.{filter, filter_map}
 use Rattle.sm_base.specs.declared.names.Name.{Name}
 use Rattle.sm_base.specs.declared.names.Name.TheVariants.{Mgt, Vhd, Raw, Old, Cbt, Clone, Inflate, Coalesce, Relink, Leaf}
 use Rattle.vg_meta.specs.Tables.{Row}
 use Rattle.vhd_map.specs.Bitmaps.{is_set}
-use Rattle.common_laws.specs.Lists.{numbers, ◌>>=◌}
+use Rattle.common_laws.specs.Lists.{In, numbers, ◌>>=◌}
 use Rattle.sm_log.specs.Heads.{head_in}
 use Rattle.sm_log.specs.Logs.{Log, log_of, sector_bits}
 use Rattle.sm_standing.specs.Contents.{Content, row, sectors_of}
@@ -51,6 +51,11 @@ logs_in c = filter_map (λ r. log_named c r.name) c.table.volumes
 unfoldable pub logs : Content → List Log
 logs c = filter (λ l. is_some (standing_volume c.table l.disk)) (logs_in c)
 
--- the logs of a content are these: a read of the volume of each disk's log gives it, and no other volume is a log
+-- a read of the volume of a disk's log gives it; where the disk has none, no volume of its log is there but new ones
+pub record IsLogOf (c : Content) (u : List ℕ) (o : Option Log) : Type 0 where
+  pub read : log_at c u ≡ o
+  pub there : (r : Row) → In r c.table.volumes → r.name ≡ Cbt u → r.fresh ≡ false → IsSome o
+
+-- the logs of a content are these: a read of the volume of each disk's log gives it, and no other volume of a log is there but new ones
 abbrev pub IsLogged : Content → List Log → Type 0
-IsLogged c ls = (u : List ℕ) → log_at c u ≡ log_of u ls
+IsLogged c ls = (u : List ℕ) → IsLogOf c u (log_of u ls)

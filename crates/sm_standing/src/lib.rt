@@ -21,7 +21,7 @@
 //! content (`images`), of what a commit or a write leaves of each volume (`worlds`), of the list of disks (`listing`), of a
 //! repository in which nothing is under way, or an enlargement or a fork alone (`plain`), or a copy or a link
 //! (`unfolding`), or the folding of a leaf (`leaves`), of outlines and the first check that fails (`faults`), of what a volume says under whatever name it
-//! stands (`volumes`), and of the moments of a fork (`forks`) and of a swap (`swaps`). That their hypotheses can be met is
+//! stands (`volumes`), of logs and the check of them (`logs`, `log_checks`), and of the moments of a fork (`forks`) and of a swap (`swaps`). That their hypotheses can be met is
 //! shown in the crate examples_standing.
 #![tactic(auto)]
 
@@ -31,6 +31,7 @@ mod forks;
 mod images;
 mod leaves;
 mod listing;
+mod log_checks;
 mod logs;
 mod plain;
 mod swaps;
@@ -52,6 +53,7 @@ pub use listing::{
     law_disk, law_disks_follow, law_disks_in_order, law_one_disk_changed, law_one_disk_less,
     law_one_disk_more,
 };
+pub use log_checks::{law_logs_pass, law_logs_stay, law_pieces, law_right_logs};
 pub use logs::{law_log_fault, law_logs};
 pub use plain::{law_but_leaf, law_plain_kept, law_undone};
 pub use swaps::law_swapping;

@@ -14,8 +14,8 @@ ghost use Rattle.sm_standing.specs.Standing.{standing_volume};
 /// The logs of a content are those that a read of their volumes gives, of the disks that are there.
 pub fn law_logs()
     ensures listed { (c : Content) (u : List ℕ) → log_of u (logs c) ≡ (if is_some (standing_volume c.table u) then log_at c u else None) }
-    // So they are all where each log is that of a disk that is there. A log that is new is none.
-    ensures logged { (c : Content) → AreLogsOfDisks c → IsLogged c (logs c) }
+    // So they are all where each log is that of a disk that is there, and the check of logs passes. A log that is new is none.
+    ensures logged { (c : Content) → AreLogsOfDisks c → log_fault c ≡ None → IsLogged c (logs c) }
 {}
 
 /// Where the check of logs passes each is right, and else it names the first that is wrong.

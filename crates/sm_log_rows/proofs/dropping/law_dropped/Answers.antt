@@ -1,5 +1,5 @@
 use Rattle.std.proofs.Common.{refl}
-use Rattle.sm_log_rows.specs.Dropped.{drop_changes}
+use Rattle.sm_standing.specs.Dropped.{drop_changes}
 use Rattle.sm_log_rows.proofs.DroppedLaws.{apart_dropped, drop_first, drop_none, dropped_apart, dropped_shorter, dropped_volumes, removed_short, some_dropped}
 use Rattle.sm_log_rows.proofs.dropping.law_dropped.Goals as goal
 

@@ -1,5 +1,5 @@
--- The logs of no use (this project's format): those that are new, and those whose disk is not there. They are to go before all else
--- that an opening repairs, one commit each.
+-- The logs of no use (this project's format): those that are new, and those whose disk is not there. They go before all else
+-- that an opening repairs, one commit each; and so what an opening makes of a content with logs.
 use Rattle.std.specs.Prelude.{not, ◌||◌, Bool, false, List, map, Option, is_some}
 use Rattle.std.specs.List.{filter}
 use Rattle.sm_base.specs.declared.names.Name.{Name}
@@ -8,7 +8,9 @@ use Rattle.vg_meta.specs.Tables.{VolumeTable, Row}
 use Rattle.vg_meta.specs.declared.changes.Change.{Change}
 use Rattle.vg_meta.specs.declared.changes.Change.TheVariants.{Remove}
 use Rattle.sm_standing.specs.Checks.{first_name}
-use Rattle.sm_standing.specs.Opened.{applied_all}
+use Rattle.sm_machine.specs.Shapes.{Shape}
+use Rattle.sm_standing.specs.Contents.{Content}
+use Rattle.sm_standing.specs.Opened.{applied_all, on_table, opened}
 use Rattle.sm_standing.specs.Standing.{standing_volume}
 
 -- whether this is the name of such a log
@@ -39,3 +41,7 @@ drop_changes t = map (λ (r : Row). Remove r.name) (filter (is_useless t) t.volu
 -- the table without the logs that are new or whose disk is not there
 unfoldable pub dropped : VolumeTable → VolumeTable
 dropped t = applied_all t (drop_changes t)
+
+-- what an opening makes of a content: the logs of no use go first, and then all else is repaired
+unfoldable pub opening : Content → Shape
+opening c = opened (on_table c (dropped c.table))
