@@ -3,3 +3,4 @@ pub mod FaultLaws
 pub mod NextLaws
 pub mod ReadLaws
 pub mod ReadOf
+pub mod NumberLaws

@@ -1,5 +1,5 @@
 -- Which logs of disks are right, and the logs in memory that come of them.
-use Rattle.std.specs.Prelude.{◌≡◌, ℕ, ◌==◌, ◌&&◌, ◌||◌, not, Bool, List, [], ◌∷◌, nat_le, Option, Some, None, Result, Ok, Err, is_some, is_none, if◌then◌else◌}
+use Rattle.std.specs.Prelude.{◌≡◌, ◌≢◌, ℕ, ◌<◌, ◌==◌, ◌&&◌, ◌||◌, not, Bool, List, [], ◌∷◌, nat_le, Option, Some, None, Result, Ok, Err, is_some, is_none, if◌then◌else◌}
 use Rattle.std.specs.List.{list_any}
 use Rattle.vg_meta.specs.Tables.{VolumeTable}
 use Rattle.vg_volumes.specs.Stored.{Faults}
@@ -59,3 +59,9 @@ abbrev pub IsNotRead : {S : Type 0} → Ghosts S → (List ℕ → Type 0) → S
 IsNotRead g Wrong old new (fault.Log u) = g.told → Wrong u
 IsNotRead g Wrong old new fault.Device = Faults g old new
 IsNotRead g Wrong old new fault.NoMemory = Unit {0}
+
+-- logs in memory whose numbers are below the sequence number, and no two of which have one tag other than 0
+pub record AreNumbered (sequence : ℕ) (ls : List Log) : Type 0 where
+  pub tag : (l : Log) → In l ls → l.tag < sequence
+  pub since : (l : Log) → In l ls → l.since < sequence
+  pub one_tag : (a b : Log) → In a ls → In b ls → a.tag ≡ b.tag → a.tag ≢ 0 → a ≡ b

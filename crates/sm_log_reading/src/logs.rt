@@ -6,7 +6,7 @@ ghost use Rattle.vg_meta.specs.Roomy.{table_alone};
 ghost use Rattle.vg_volumes.specs.Stored.{OnlyReads, stored};
 ghost use Rattle.sm_log.specs.Logs.{log_of};
 ghost use Rattle.sm_log_reading.specs.Reading.{IsReadOf, content_of};
-ghost use Rattle.sm_log_reading.specs.Right.{AreReadOf, IsNotRead, is_tag_wrong, is_to_read, judged_log, logs_read, next_log};
+ghost use Rattle.sm_log_reading.specs.Right.{AreNumbered, AreReadOf, IsNotRead, is_tag_wrong, is_to_read, judged_log, logs_read, next_log};
 ghost use Rattle.sm_log_reading.specs.declared.logs.LogFault.TheVariants as fault;
 
 use crate::reading::{filled_extents, read_log};
@@ -70,6 +70,7 @@ fn read_right<S: Store>(
     ensures only { OnlyReads S.Store store.old store.new }
     ensures calm { result ≢ Err fault.Device → S.faults store.new ≡ S.faults store.old }
     ensures own { IfOk result (IsReadOf (table_alone (S.table store.old)) (S.site store.old).geometry.extent disk.now.disk disk.now.pieces) }
+    ensures numbered { IfOk result (λ log. is_tag_wrong (table_alone (S.table store.old)).sequence earlier.now log ≡ false) }
     ensures right { S.told → IfOk result (λ log. judged_log (content_of (stored S.Store store.old)) earlier.now disk.now ≡ Ok (Some log)) }
     ensures cause { IfErr result (IsNotRead S.Store (λ u. judged_log (content_of (stored S.Store store.old)) earlier.now disk.now ≡ Err u) store.old store.new) }
 {
@@ -101,6 +102,7 @@ fn read_next<S: Store>(
     ensures calm { result ≢ Err fault.Device → S.faults store.new ≡ S.faults store.old }
     ensures absent { IfOk result (λ found. IfSome found (λ log. log_of log.disk earlier.now ≡ None)) }
     ensures own { IfOk result (λ found. IfSome found (IsReadOf (table_alone (S.table store.old)) (S.site store.old).geometry.extent disk.now.disk disk.now.pieces)) }
+    ensures numbered { IfOk result (λ found. IfSome found (λ log. is_tag_wrong (table_alone (S.table store.old)).sequence earlier.now log ≡ false)) }
     ensures none { IfOk result (λ found. IfNone found (is_to_read (table_alone (S.table store.old)) earlier.now disk.now ≡ false)) }
     ensures next { S.told → IfOk result (λ found. next_log (content_of (stored S.Store store.old)) earlier.now disk.now ≡ Ok found) }
     ensures cause { IfErr result (IsNotRead S.Store (λ u. next_log (content_of (stored S.Store store.old)) earlier.now disk.now ≡ Err u) store.old store.new) }
@@ -127,6 +129,8 @@ pub fn read_logs<S: Store>(
     ensures only { OnlyReads S.Store store.old store.new }
     ensures calm { result ≢ Err fault.Device → S.faults store.new ≡ S.faults store.old }
     ensures read { IfOk result (AreReadOf (table_alone (S.table store.old)) (S.site store.old).geometry.extent disks.now) }
+    ensures few { IfOk result (λ logs. length logs ≤ length disks.now) }
+    ensures numbered { IfOk result (AreNumbered (table_alone (S.table store.old)).sequence) }
     ensures logs { S.told → IfOk result (λ logs. logs_read (content_of (stored S.Store store.old)) disks.now ≡ Ok logs) }
     ensures cause { IfErr result (IsNotRead S.Store (λ u. logs_read (content_of (stored S.Store store.old)) disks.now ≡ Err u) store.old store.new) }
 {

@@ -7,8 +7,9 @@ use Rattle.vg_volumes.proofs.StoredLaws.{reads_then}
 use Rattle.sm_log.specs.Logs.{Log}
 use Rattle.sm_standing.specs.Contents.{Content}
 use Rattle.sm_log_reading.specs.Reading.{IsReadOf, content_of}
-use Rattle.sm_log_reading.specs.Right.{AreReadOf, is_to_read, logs_behind, next_log}
+use Rattle.sm_log_reading.specs.Right.{AreNumbered, AreReadOf, is_tag_wrong, is_to_read, logs_behind, next_log}
 use Rattle.sm_log_reading.proofs.ReadOf.{all_read, next_read, next_skipped}
+use Rattle.sm_log_reading.proofs.NumberLaws.{more_numbered}
 use Rattle.sm_log_reading.proofs.NextLaws.{behind_end, behind_next, behind_wrong, content_same, later_reason, length-with_log}
 use Rattle.sm_log_reading.proofs.logs.read_logs.Goals as goal
 
@@ -43,6 +44,7 @@ loop-disk-preserved-in_default-found g c =
       few = omega (arith, i.few);
       read = next_skipped (table_alone (g.S.Store.table c.args.store.now)) (g.S.Store.site c.args.store.now).geometry.extent c.args.disks.now c.loop-disk.disk-index c.loop-disk.logs d c.loop-disk-test.true c.disk-item.is i.read
           (subst (λ t. is_to_read t c.loop-disk.logs d ≡ false) i.only.stays.table (none_there c.in-Ok-read_next.found c.in_default-found.is c.in-Ok-read_next.ensures.none));
+      numbered = i.numbered;
       so_far = λ told. sym (behind_next now c.loop-disk.logs c.args.disks.now c.loop-disk.disk-index d _ c.loop-disk-test.true c.disk-item.is
           (sym (ap (λ (x : Content). next_log x c.loop-disk.logs d) (content_same i.only told)) ∙ c.in-Ok-read_next.ensures.next told ∙ ap Ok c.in_default-found.is)) ∙ i.so_far told;
     }
@@ -60,6 +62,9 @@ loop-disk-preserved g c =
           (next_read (table_alone (g.S.Store.table c.args.store.now)) (g.S.Store.site c.args.store.now).geometry.extent c.args.disks.now c.loop-disk.disk-index c.loop-disk.logs d c.in-Some.log c.loop-disk-test.true c.disk-item.is i.read
           (some_there _ c.in-Ok-read_next.found c.in-Some.log c.in-Some.is c.in-Ok-read_next.ensures.absent)
           (subst₂ (λ (s : Site) t. IsReadOf t s.geometry.extent d.disk d.pieces c.in-Some.log) i.only.stays.site i.only.stays.table (some_there _ c.in-Ok-read_next.found c.in-Some.log c.in-Some.is c.in-Ok-read_next.ensures.own)));
+      numbered = subst (AreNumbered (table_alone (g.S.Store.table c.args.store.now)).sequence) (sym c.insert.ensures)
+          (more_numbered (table_alone (g.S.Store.table c.args.store.now)).sequence c.loop-disk.logs c.in-Some.log i.numbered
+          (subst (λ t. is_tag_wrong t.sequence c.loop-disk.logs c.in-Some.log ≡ false) i.only.stays.table (some_there _ c.in-Ok-read_next.found c.in-Some.log c.in-Some.is c.in-Ok-read_next.ensures.numbered)));
       so_far = λ told. ap (λ (ls : List Log). logs_behind now ls (drop (c.loop-disk.disk-index + 1) c.args.disks.now)) c.insert.ensures
           ∙ sym (behind_next now c.loop-disk.logs c.args.disks.now c.loop-disk.disk-index d _ c.loop-disk-test.true c.disk-item.is
           (sym (ap (λ (x : Content). next_log x c.loop-disk.logs d) (content_same i.only told)) ∙ c.in-Ok-read_next.ensures.next told ∙ ap Ok c.in-Some.is)) ∙ i.so_far told;
