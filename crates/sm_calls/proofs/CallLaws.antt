@@ -9,6 +9,7 @@ use Rattle.vg_volumes.specs.Stored.{IsChoiceOf, Stored}
 use Rattle.sm_ready.specs.Done.{at_rest}
 use Rattle.sm_ready.specs.Runs.{committed}
 use Rattle.sm_ready.specs.Stores.{Leaving}
+use Rattle.sm_ready.specs.Frames.{IsNoLower}
 use Rattle.sm_calls.specs.Calls.{AreCommits, Call, Commit, GoesOn, GoesWell, IsAmong, IsFine, Ran, Settle, Work, changes, settled, worked}
 
 -- ---- the law: whatever a stop leaves among them is fine, and what they make is as wanted
@@ -102,6 +103,18 @@ few_among x (Work did done ∷ cs) v image (inr w) = ⊎_elim
     (λ d. few_among (worked x w.0) cs v image d.1) w.2
 few_among x (Settle ∷ cs) v image (inl i) = omega (arith, ap (λ (t : VolumeTable). t.sequence) i.table_is)
 few_among x (Settle ∷ cs) v image (inr i) = few_among (settled x) cs v image i
+
+-- and none lower
+pub no_lower_among : (x : Stored) (cs : List Call) (v : VolumeTable) (image : ℕ → List ℕ) → IsAmong x cs v image → IsNoLower x.table v
+no_lower_among x [] v image i = omega (arith, ap (λ (t : VolumeTable). t.sequence) i.table_is)
+no_lower_among x (Commit c ∷ cs) v image (inl i) = omega (arith, ap (λ (t : VolumeTable). t.sequence) i.table_is)
+no_lower_among x (Commit c ∷ cs) v image (inr i) = omega (arith, no_lower_among (committed x c) cs v image i)
+no_lower_among x (Work did done ∷ cs) v image (inl i) = omega (arith, ap (λ (t : VolumeTable). t.sequence) i.table_is)
+no_lower_among x (Work did done ∷ cs) v image (inr w) = ⊎_elim
+    (λ i. omega (arith, ap (λ (t : VolumeTable). t.sequence) i.table_is))
+    (λ d. no_lower_among (worked x w.0) cs v image d.1) w.2
+no_lower_among x (Settle ∷ cs) v image (inl i) = omega (arith, ap (λ (t : VolumeTable). t.sequence) i.table_is)
+no_lower_among x (Settle ∷ cs) v image (inr i) = no_lower_among (settled x) cs v image i
 
 goes_then : (Fine : Leaving) (Mid End : Stored → Type 0) (x : Stored) (xs ys : List Call) → GoesOn Fine Mid x xs → ((y : Stored) → Mid y → GoesOn Fine End y ys) → GoesOn Fine End x (xs ++ ys)
 goes_then Fine Mid End x [] ys next then = then x next

@@ -32,7 +32,7 @@ use Rattle.sm_ready.proofs.LogLaws.{holds_ready, logged_left}
 use Rattle.sm_ready.proofs.RoomLaws.{rows_commits, rows_stays}
 use Rattle.sm_ready.proofs.RunLaws.{applied_append, may_back, may_front}
 use Rattle.sm_calls.specs.Calls.{Call, CanRun, Commit, DoesRun, GoesOn, GoesWell, IsSoFar, RoomFor, IsAmong, IsFine, IsReadyWith, Settle, ShowsBetween, Work, changes, worked}
-use Rattle.sm_calls.proofs.CallLaws.{among_behind, among_front, changes_append, commits_back, commits_front, few_among, law_among, law_end, ran_then}
+use Rattle.sm_calls.proofs.CallLaws.{among_behind, among_front, changes_append, commits_back, commits_front, few_among, law_among, law_end, no_lower_among, ran_then}
 use Rattle.sm_calls.proofs.SpareLaws.{more_room, room_for, room_front}
 
 -- what the trait says of a commit
@@ -57,6 +57,7 @@ module _ {S : Type 0} {g : Ghosts S} where
     site = made.site;
     faults = made.faults;
     few = omega (arith, ap (λ (t : VolumeTable). t.sequence) made.table);
+    no_lower = omega (arith, ap (λ (t : VolumeTable). t.sequence) made.table);
     beside = made.beside;
     left = λ told t image l. ⊎_elim (λ k. either (stored g a) c t image (crash told t image k)) (λ w. inr (subst (λ x. IsChoiceOf x t image) (stored_commits told made) w.2)) l;
     keeps = λ all. made.keeps;
@@ -73,6 +74,7 @@ module _ {S : Type 0} {g : Ghosts S} where
     site = fails.site;
     faults = fails.faults;
     few = omega (arith, ap (λ (t : VolumeTable). t.sequence) fails.table);
+    no_lower = omega (arith, ap (λ (t : VolumeTable). t.sequence) fails.table);
     beside = fails.beside;
     left = λ told t image l. ⊎_elim (λ k. either (stored g a) c t image (crash told t image k)) (λ w. absurd (true≢false (sym fails.stuck ∙ w.1))) l;
     keeps = λ all. fails.keeps;
@@ -99,6 +101,7 @@ module _ {S : Type 0} {g : Ghosts S} where
     site = stays.site;
     faults = stays.faults;
     few = omega (arith, ap (λ (t : VolumeTable). t.sequence) stays.table);
+    no_lower = omega (arith, ap (λ (t : VolumeTable). t.sequence) stays.table);
     beside = stays.beside;
     left = λ told t image l. inr (g.area b, did told, inl (choice_left stays told (now told) t image l));
     keeps = λ all. absurd all;
@@ -116,6 +119,7 @@ module _ {S : Type 0} {g : Ghosts S} where
     site = stays.site;
     faults = stays.faults;
     few = omega (arith, ap (λ (t : VolumeTable). t.sequence) stays.table);
+    no_lower = omega (arith, ap (λ (t : VolumeTable). t.sequence) stays.table);
     beside = stays.beside;
     left = λ told t image l. let i = choice_left stays told (now told) t image l in
         inl (record { table_is = i.table_is; sectors = Allows-keeps (area_size (g.site a)) image (keeps told) i.sectors });
@@ -135,6 +139,7 @@ module _ {S : Type 0} {g : Ghosts S} where
     site = q.site ∙ p.site;
     faults = omega (arith, p.faults, q.faults);
     few = omega (arith, p.few, q.few, long xs ys, length-append (changes xs) (changes ys));
+    no_lower = omega (arith, p.no_lower, q.no_lower);
     beside = λ told. Keeps-then (p.beside told) (q.beside told);
     left = λ told t image l. among_behind (stored g a) (stored g b) xs ys t image (p.ran came told) (q.left told t image l);
     keeps = λ all told. Keeps-then (p.keeps (commits_front xs ys all) told) (q.keeps (commits_back xs ys all) told);
@@ -153,6 +158,7 @@ module _ {S : Type 0} {g : Ghosts S} where
     site = p.site;
     faults = p.faults;
     few = omega (arith, p.few, long xs ys, length-append (changes xs) (changes ys));
+    no_lower = p.no_lower;
     beside = p.beside;
     left = λ told t image l. among_front (stored g a) xs ys t image (p.left told t image l);
     keeps = λ all. p.keeps (commits_front xs ys all);
@@ -194,6 +200,8 @@ module _ {S : Type 0} {g : Ghosts S} where
     beside = run.beside;
     few = run.few;
     few_left = λ told t image l. few_among (stored g a) calls t image (run.left told t image (inl l));
+    no_lower = run.no_lower;
+    no_lower_left = λ told t image l. no_lower_among (stored g a) calls t image (run.left told t image (inl l));
   }
 
   -- and what it says of disks and stops

@@ -18,7 +18,7 @@ use Rattle.sm_standing.specs.Logs.{IsLogged}
 use Rattle.sm_standing.specs.Standing.{disks}
 use Rattle.sm_standing.specs.Opened.{applied_all}
 use Rattle.sm_ready.specs.Done.{at_rest}
-use Rattle.sm_ready.specs.Frames.{HasCommits}
+use Rattle.sm_ready.specs.Frames.{HasCommits, IsNoLower}
 use Rattle.sm_ready.specs.Known.{Known}
 use Rattle.sm_ready.specs.Ready.{IsReady}
 use Rattle.sm_ready.specs.Runs.{AllMay, committed}
@@ -126,6 +126,7 @@ pub record DoesRun {S : Type 0} (g : Ghosts S) (calls : List Call) (old new : S)
   pub site : g.site new ≡ g.site old
   pub faults : g.faults old ≤ g.faults new
   pub few : HasCommits (length (changes calls)) (table_alone (g.table old)) (table_alone (g.table new))
+  pub no_lower : IsNoLower (table_alone (g.table old)) (table_alone (g.table new))
   pub beside : g.told → Keeps (g.beside old) (g.beside new)
   pub left : g.told → (t : VolumeTable) (image : ℕ → List ℕ) → StoreLeaves g new t image → IsAmong (stored g old) calls t image
   pub keeps : AreCommits calls → g.told → Keeps (g.area old) (g.area new)

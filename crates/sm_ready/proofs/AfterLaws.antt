@@ -8,7 +8,7 @@ use Rattle.sm_disk.specs.Held.{Held, Keeps, May, newest, reads}
 use Rattle.vg_meta.specs.Tables.{VolumeTable, Row, IsTable, rows, extents_of}
 use Rattle.vg_meta.proofs.ByName.{spread}
 use Rattle.vg_volumes.specs.Sites.{Site, volume_of}
-use Rattle.vg_volumes.specs.Volumes.{span, spot, volume, KeepsElsewhere}
+use Rattle.vg_volumes.specs.Volumes.{IsElsewhere, KeepsAt, KeepsElsewhere, span, spot, volume}
 use Rattle.vhd_volumes.specs.Truth.{IsTrueIn}
 use Rattle.common_laws.specs.Lists.{In}
 use Rattle.sm_standing.specs.Logs.{IsLogged}
@@ -31,40 +31,40 @@ held_step : {A : Type 0} (b : Bool) (x y z : A) → x ≡ y → cond b x z ≡ c
 held_step true x y z e = e
 held_step false x y z e = refl
 
--- each other volume keeps what it holds
-pub other_keeps : (s : Site) (t : VolumeTable) (old new : Held) (n m : Name) → IsTable s.count t → 0 < s.geometry.extent → KeepsElsewhere s.geometry.extent (extents_of (rows t n)) old new → m ≢ n
-    → Keeps (volume_of s t old m) (volume_of s t new m)
+-- a volume keeps what it holds where each of its places is kept
+pub spots_keep : (e : ℕ) (es : List ℕ) (P : ℕ → Type 0) (old new : Held) → KeepsAt P old new → ((p : ℕ) → p < span e es → P (spot e es p)) → Keeps (volume e es old) (volume e es new)
 unfolding volume
-other_keeps s t old new n m table pos keeps other = record {
-  reads = λ p. read p (nat_lt p (span e es)) (cases_lt p (span e es));
-  may = λ p v. left p v (nat_lt p (span e es)) (cases_lt p (span e es));
+spots_keep e es P old new keeps at_spots = record {
+  reads = λ p. read p (cases_lt p (span e es));
+  may = λ p v. left p v (cases_lt p (span e es));
 }
   where
-    e : ℕ
-    e = s.geometry.extent
-
-    es : List ℕ
-    es = extents_of (rows t m)
-
-    read : (p : ℕ) (b : Bool) → (p < span e es) ⊎ (span e es ≤ p)
+    read : (p : ℕ) → (p < span e es) ⊎ (span e es ≤ p)
         → newest (cond (nat_lt p (span e es)) (new.floor (spot e es p)) []) (cond (nat_lt p (span e es)) (new.pending (spot e es p)) []) ≡ newest (cond (nat_lt p (span e es)) (old.floor (spot e es p)) []) (cond (nat_lt p (span e es)) (old.pending (spot e es p)) [])
-    read p b (inl below) =
+    read p (inl below) =
         ap (λ c. newest (cond c (new.floor (spot e es p)) []) (cond c (new.pending (spot e es p)) [])) (lt-ltb p (span e es) below)
-        ∙ keeps.reads (spot e es p) (elsewhere s.count e (rows t) n m p (spread s.count t table) pos other below)
+        ∙ keeps.reads (spot e es p) (at_spots p below)
         ∙ sym (ap (λ c. newest (cond c (old.floor (spot e es p)) []) (cond c (old.pending (spot e es p)) [])) (lt-ltb p (span e es) below))
-    read p b (inr past) =
+    read p (inr past) =
         ap (λ c. newest (cond c (new.floor (spot e es p)) []) (cond c (new.pending (spot e es p)) [])) (le-ltb p (span e es) past)
         ∙ sym (ap (λ c. newest (cond c (old.floor (spot e es p)) []) (cond c (old.pending (spot e es p)) [])) (le-ltb p (span e es) past))
 
     at : Held → ℕ → Bool → Held
     at h p c = record { floor = λ q. cond c (h.floor (spot e es p)) []; pending = λ q. cond c (h.pending (spot e es p)) [] }
 
-    left : (p : ℕ) (v : List ℕ) (b : Bool) → (p < span e es) ⊎ (span e es ≤ p) → May (at new p (nat_lt p (span e es))) p v → May (at old p (nat_lt p (span e es))) p v
-    left p v b (inl below) may =
+    left : (p : ℕ) (v : List ℕ) → (p < span e es) ⊎ (span e es ≤ p) → May (at new p (nat_lt p (span e es))) p v → May (at old p (nat_lt p (span e es))) p v
+    left p v (inl below) may =
         subst (λ c. May (at old p c) p v) (sym (lt-ltb p (span e es) below))
-        (keeps.may (spot e es p) v (elsewhere s.count e (rows t) n m p (spread s.count t table) pos other below) (subst (λ c. May (at new p c) p v) (lt-ltb p (span e es) below) may))
-    left p v b (inr past) may =
+        (keeps.may (spot e es p) v (at_spots p below) (subst (λ c. May (at new p c) p v) (lt-ltb p (span e es) below) may))
+    left p v (inr past) may =
         subst (λ c. May (at old p c) p v) (sym (le-ltb p (span e es) past)) (subst (λ c. May (at new p c) p v) (le-ltb p (span e es) past) may)
+
+-- so does each other volume where one is written to
+pub other_keeps : (s : Site) (t : VolumeTable) (old new : Held) (n m : Name) → IsTable s.count t → 0 < s.geometry.extent → KeepsElsewhere s.geometry.extent (extents_of (rows t n)) old new → m ≢ n
+    → Keeps (volume_of s t old m) (volume_of s t new m)
+other_keeps s t old new n m table pos keeps other =
+    let e = s.geometry.extent in
+    spots_keep e (extents_of (rows t m)) (λ p. IsElsewhere e (extents_of (rows t n)) p) old new keeps (λ p below. elsewhere s.count e (rows t) n m p (spread s.count t table) pos other below)
 
 quiet_keeps : (a b : Held) → Keeps a b → IsQuiet a → IsQuiet b
 quiet_keeps a b keeps quiet p v may = quiet p v (keeps.may p v may) ∙ sym (keeps.reads p)

@@ -36,8 +36,10 @@ use Rattle.sm_ready.proofs.AfterLaws.{other_keeps}
 use Rattle.sm_ready.proofs.BesideLaws.{images_beside, orderly_beside}
 use Rattle.sm_ready.proofs.GoneLaws.{goes_alone}
 use Rattle.sm_ready.proofs.LeftLaws.{image_quiet, left_now}
+use Rattle.sm_ready.proofs.LogLaws.{HoldsLogs, holds_keeps, holds_ready}
 use Rattle.sm_ready.proofs.Orders.{named_row}
-use Rattle.sm_ready.proofs.RepairLaws.{all_quiet, gone_ready, gone_disks, gone_stop, same_left, swept_ready, swept_now}
+use Rattle.sm_ready.proofs.RepairLaws.{all_quiet, gone_ready, gone_disks, gone_same_logs, gone_stop, same_left, swept_ready, swept_now, swept_same_logs}
+use Rattle.sm_ready.proofs.SameLogs.{same_logs_keep, same_logs_left, same_logs_none, same_logs_then}
 use Rattle.sm_ready.proofs.ShapeLaws.{place_of, standing_shown}
 use Rattle.sm_ready.proofs.StrayLaws.{IsFreed, IsSwept, stray_unseen, with_places, orderly_freed, swept_in, swept_kept, swept_disks}
 use Rattle.sm_ready.specs.Repairs.{IsAtRest, IsNewVolume, IsRightAt, IsSame, IsStrayAt, IsWithoutStrays, IsZeroedAt, RestsAgain, content_of}
@@ -46,13 +48,14 @@ use Rattle.sm_ready.proofs.NewVolumeLaws.{new_beside}
 -- ---- one repair after another
 
 pub again_none : (x : Stored) (m : Known) → RestsAgain x x m m
-again_none x m = record { rest = λ r. r; same_disks = λ r. refl; same_logs = refl; same_images = λ r n. refl }
+again_none x m = record { rest = λ r. r; same_disks = λ r. refl; same_logs = refl; logs_kept = λ r. same_logs_none (content_of x); same_images = λ r n. refl }
 
 pub again_then : {x y z : Stored} {a b c : Known} → RestsAgain x y a b → RestsAgain y z b c → RestsAgain x z a c
 again_then p q = record {
   rest = λ r. q.rest (p.rest r);
   same_disks = λ r. q.same_disks (p.rest r) ∙ p.same_disks r;
   same_logs = q.same_logs ∙ p.same_logs;
+  logs_kept = λ r. same_logs_then (p.logs_kept r) (q.logs_kept (p.rest r));
   same_images = λ r n. q.same_images (p.rest r) n ∙ p.same_images r n;
 }
 
@@ -61,7 +64,7 @@ pub stop_then : {x y : Stored} {a b : Known} {t : VolumeTable} {image : ℕ → 
     → (IsAtRest y b → IsSame (content_of y) (content_in y.site t image)) → IsSame (content_of x) (content_in x.site t image)
 stop_then {x} {y} {a} {b} {t} {image} site p r stop =
     let w = subst (λ s. IsSame (content_of y) (content_in s t image)) site (stop (p.rest r)) in
-    record { kept = w.kept; same_disks = w.same_disks ∙ p.same_disks r }
+    record { table = w.table; kept = w.kept; same_disks = w.same_disks ∙ p.same_disks r; same_logs = same_logs_then (p.logs_kept r) w.same_logs }
 
 -- and of what is at rest
 pub stop_now : (x : Stored) (m : Known) (t : VolumeTable) (image : ℕ → List ℕ) → IsChoiceOf x t image → IsAtRest x m → IsSame (content_of x) (content_in x.site t image)
@@ -86,6 +89,7 @@ module _ (x : Stored) (n : Name) (new : IsNewVolume x.table n) where
         };
         same_disks = λ r. gone_disks x.site x.table x.area m n new.0 r.orderly r.ready (new_beside n new r.orderly) y.area keeps settled;
         same_logs = refl;
+        logs_kept = λ r. gone_same_logs x.site x.table x.area m n new.0 r.orderly r.ready (new_beside n new r.orderly) y.area keeps settled;
         same_images = λ r k. ap (λ f. image_of (content_in x.site (applied x.table (Remove n)) f) k) (fun_ext keeps.reads)
             ∙ images_beside x.site x.table x.area m n new.0 (Remove n) r.orderly r.ready (new_beside n new r.orderly) (goes_alone r.orderly.table (new_beside n new r.orderly)) k;
       })
@@ -146,10 +150,15 @@ module _ {S : Type 0} {g : Ghosts S} where
       let k = swept w told r.orderly in
       let left = λ (p : ℕ) (below : p < area_size (g.site a)). stop.sectors p (subst (λ z. p < area_size z) (sym w.stays.site) below) in
       subst (λ u. IsSame (store_content g a) (content_in (g.site a) u image)) (sym (stop.table_is ∙ w.stays.table)) (record {
+        table = r.orderly.table;
         kept = swept_kept (g.site a) (table_alone (g.table a)) m (g.area a) (g.area b) r.orderly r.ready k image left;
         same_disks = swept_disks (g.site a) (table_alone (g.table a)) m (g.area a) (g.area b) r.orderly r.ready k image left
             (all_quiet (g.site a) (table_alone (g.table a)) (g.area a) r.settled);
+        same_logs = same_logs_then (same_logs_keep (was_held r) (g.area b) k.logs) (same_logs_left (holds_keeps (was_held r) (g.area b) k.logs) r.orderly.table image left);
       })
+    where
+      was_held : IsAtRest (stored g a) m → HoldsLogs (g.site a) (table_alone (g.table a)) (g.area a) m.logs
+      was_held r = holds_ready (g.site a) (table_alone (g.table a)) (g.area a) m r.orderly r.ready
 
   synced : {a b d : S} (m : Known) (ps : List (Option Record)) → Wipes g m.places a b → Keeps (g.area b) (g.area d) → Agrees (records_of g b) ps
       → Agrees (records_held (g.site a) (table_alone (g.table a)) (g.area d)) ps
@@ -172,6 +181,7 @@ module _ {S : Type 0} {g : Ghosts S} where
         };
         same_disks = λ r. swept_now (g.site a) (table_alone (g.table a)) m (g.area a) (g.area b) (g.area d) r.orderly r.ready (swept w told r.orderly) keeps r.settled;
         same_logs = refl;
+        logs_kept = λ r. swept_same_logs (g.site a) (table_alone (g.table a)) m (g.area a) (g.area b) (g.area d) r.orderly r.ready (swept w told r.orderly) keeps;
         same_images = λ r n. ap (λ f. image_of (content_in (g.site a) (table_alone (g.table a)) f) n) (fun_ext keeps.reads)
             ∙ image_quiet (g.site a) (table_alone (g.table a)) (g.area a) m (reads (g.area b)) n r.orderly r.ready.firm
             (swept_in (g.site a) (table_alone (g.table a)) m (g.area a) (g.area b) r.orderly r.ready (swept w told r.orderly) (reads (g.area b)) (left_now (g.site a) (g.area b)))

@@ -5,13 +5,13 @@ use Rattle.std.proofs.lemmas.List.{length-map}
 use Rattle.std.proofs.lemmas.Slice.Eq.{bytes_eq-Decides}
 use Rattle.std.specs.Str.{bytes_eq}
 use Rattle.sm_base.specs.Limits.{extent_limit}
-use Rattle.sm_base.specs.Kinds.{is_entry, is_image}
+use Rattle.sm_base.specs.Kinds.{is_entry, is_image, is_log}
 use Rattle.sm_base.specs.Names.{base_uuid}
 use Rattle.sm_base.specs.Numbers.{IsGeometry}
 use Rattle.sm_base.specs.declared.names.Name.{Name}
 use Rattle.sm_base.specs.declared.names.Name.TheVariants.{Mgt, Raw, Vhd, Cbt}
-use Rattle.sm_log.specs.Logs.{log_extents}
-use Rattle.sm_logs.proofs.OrderLaws.{rising_first}
+use Rattle.sm_log.specs.Logs.{Log, log_extents}
+use Rattle.sm_logs.specs.Held.{IsRising as AreRising, log_limit}
 use Rattle.sm_machine.specs.Operations.{Idle}
 use Rattle.sm_disk.specs.Held.{Held, IsSettled}
 use Rattle.vg_meta.specs.Tables.{IsTable, VolumeTable, Row, rows, extents_of}
@@ -38,7 +38,7 @@ use Rattle.vhd_chain.specs.declared.rows.TreeRow.{TreeRow}
 use Rattle.vhd_image.specs.Bodies.{StandsIn}
 use Rattle.vhd_image.specs.Steady.{IsSteady}
 use Rattle.sm_ready.specs.Known.{Known, machine_row, machine_record, shape_in, records_in, shown_places, is_shown, is_shown_place, row_face, tree_face}
-use Rattle.sm_ready.specs.Orderly.{IsOrderly}
+use Rattle.sm_ready.specs.Orderly.{HasLogRoom, IsOrderly}
 use Rattle.sm_ready.specs.Ready.{IsReady, IsBelow}
 use Rattle.sm_ready.specs.Stores.{content_now}
 use Rattle.sm_ready.proofs.RepairLaws.{all_quiet}
@@ -46,17 +46,18 @@ use Rattle.sm_ready.proofs.ShapeLaws.{from_records, into_records}
 use Rattle.sm_ready.proofs.StrayLaws.{visible_of}
 use Rattle.std.specs.List.{filter_map}
 use Rattle.vg_layout.specs.Places.{record_extents}
-use Rattle.sm_ready.proofs.LoadLaws.{IsReadFrom, tree_cmp, read_rising, read_fewer, extents_fit, faces_same, images_sorted, images_distinct}
+use Rattle.sm_ready.proofs.LogRead.{IsLogFrom, all_fit, log_faces}
+use Rattle.sm_ready.proofs.LoadLaws.{IsReadFrom, tree_cmp, read_rising, read_fewer, faces_same, images_sorted, images_distinct}
 use Rattle.sm_ready.proofs.NumberLaws.{whole_blocks, number_of_base, is_base_of}
 use Rattle.sm_standing.specs.Ordered.{Rising}
 use Rattle.sm_standing.proofs.Orders.{In-filter_map}
 
--- memory with these rows and places, and nothing under way
-abbrev pub begun_with : List TreeRow → List (Option Record) → ℕ → Known
-begun_with xs places room = record { rows = xs; places = places; logs = []; attached = record { disks = []; counts = []; room = room }; op = Idle }
+-- memory with these rows, places and logs, and nothing under way
+abbrev pub begun_with : List TreeRow → List (Option Record) → List Log → ℕ → Known
+begun_with xs places ls room = record { rows = xs; places = places; logs = ls; attached = record { disks = []; counts = []; room = room }; op = Idle }
 
--- what the checks say of a table without journal entries, of the rows that were read off it, and of the places of the records
-pub record IsRead (s : Site) (t : VolumeTable) (read : Row → Option TreeRow) (xs : List TreeRow) (places : List (Option Record)) : Type 0 where
+-- what the checks say of a table without journal entries, of the rows and the logs that were read off it, and of the places of the records
+pub record IsRead (s : Site) (t : VolumeTable) (read : Row → Option TreeRow) (xs : List TreeRow) (places : List (Option Record)) (log : Row → Option Log) (ls : List Log) : Type 0 where
   pub rows_are : xs ≡ filter_map read t.volumes
   pub table : IsTable s.count t
   pub few_extents : s.count ≤ extent_limit
@@ -65,11 +66,17 @@ pub record IsRead (s : Site) (t : VolumeTable) (read : Row → Option TreeRow) (
   pub named : (r : Row) → In r t.volumes → is_misnamed t r ≡ false
   pub new_image : (r : Row) → In r t.volumes → r.fresh ≡ true → is_image_name r.name ≡ true
   pub no_entry : names_in t is_entry ≡ []
-  pub no_log : (u : List ℕ) → row_face (rows t (Cbt u)) ≡ None
+  -- the logs: each volume of one has it, and they have room
+  pub logs_are : ls ≡ filter_map log t.volumes
+  pub log_from : (r : Row) (l : Log) → log r ≡ Some l → IsLogFrom r l
+  pub log_all : (r : Row) → In r t.volumes → is_log r.name ≡ true → (l : Log) × (log r ≡ Some l)
+  pub few_logs : length ls ≤ log_limit
+  pub logs_in_order : AreRising ls
+  pub log_room : (l : Log) → In l ls → HasLogRoom s.geometry.extent l
   -- the rows: each image that is not new has one, and chains end
   pub from : (r : Row) (x : TreeRow) → read r ≡ Some x → IsReadFrom r x
   pub all : (r : Row) → In r t.volumes → is_image r.name ≡ true → r.fresh ≡ false → (x : TreeRow) × (read r ≡ Some x)
-  pub proper : (room : ℕ) (x : TreeRow) → In x xs → IsImageRow (shape_in s t (begun_with xs places room)) (machine_row x)
+  pub proper : (room : ℕ) (x : TreeRow) → In x xs → IsImageRow (shape_in s t (begun_with xs places ls room)) (machine_row x)
   pub parents : (x : TreeRow) (p : Name) → In x xs → parent_name x.image ≡ Some p → HasParent (map machine_row xs) (machine_row x) p
   pub chains : (x : TreeRow) → In x xs → EndsWithin chain_limit (Some (row_name x)) (map machine_row xs)
   pub stands : (x : TreeRow) → In x xs → StandsIn s.geometry (x.extents * s.geometry.extent) x.image
@@ -183,7 +190,7 @@ place_record xs places u (Some r) i is shown =
 
 -- ---- memory as an opening begins with it
 
-module _ {s : Site} {t : VolumeTable} {read : Row → Option TreeRow} {xs : List TreeRow} {places : List (Option Record)} (b : IsRead s t read xs places) where
+module _ {s : Site} {t : VolumeTable} {read : Row → Option TreeRow} {xs : List TreeRow} {places : List (Option Record)} {log : Row → Option Log} {ls : List Log} (b : IsRead s t read xs places log ls) where
   one_place : (u : List ℕ) → is_shown xs u ≡ true → length (filter (is_of u) places) ≡ 1
   one_place u h =
       let v = visible_of xs u h in
@@ -203,17 +210,17 @@ module _ {s : Site} {t : VolumeTable} {read : Row → Option TreeRow} {xs : List
       let w = volume y j in
       same_named t (row_name x) (row_name y) (b.proper 0 x i).named (b.proper 0 y j).named (there_at t w.0 (row_name y) b.table.volumes.rising w.1 w.2) (free x i) same)
 
-  pub begun_well : (room : ℕ) → IsWellFormed (shape_in s t (begun_with xs places room))
+  pub begun_well : (room : ℕ) → IsWellFormed (shape_in s t (begun_with xs places ls room))
   unfolding shape_in log_extents
   begun_well room = record {
     geometry = g;
     blocks = whole_blocks s.geometry.extent s.geometry.block g.extent_power g.block_power g.within;
     sequence = omega (arith, b.table.sequence);
-    room = omega (arith, extents_fit read b.from t.volumes, ap (λ ys. image_extents (map machine_row ys)) b.rows_are, used-le s.count t.volumes b.table.volumes, b.record_volume);
+    room = omega (arith, all_fit log b.log_from read b.from t.volumes, ap (λ ys. image_extents (map machine_row ys)) b.rows_are, ap log_extents b.logs_are, used-le s.count t.volumes b.table.volumes, b.record_volume);
     few = omega (arith, length-map xs machine_row, ap length b.rows_are, read_fewer read b.from t.volumes, b.few);
     images_in_order = images_sorted xs rising;
     one_image = distinct;
-    images = λ i h. let x = In-map machine_row xs i h in subst (IsImageRow (shape_in s t (begun_with xs places room))) (sym x.2) (b.proper room x.0 x.1);
+    images = λ i h. let x = In-map machine_row xs i h in subst (IsImageRow (shape_in s t (begun_with xs places ls room))) (sym x.2) (b.proper room x.0 x.1);
     parents = λ i p h is. let x = In-map machine_row xs i h in subst (λ z. HasParent (map machine_row xs) z p) (sym x.2) (b.parents x.0 p x.1 (sym (ap (λ (z : ImageRow). z.parent) x.2) ∙ is));
     chains = λ i h. let x = In-map machine_row xs i h in subst (λ (z : ImageRow). EndsWithin chain_limit (Some z.name) (map machine_row xs)) (sym x.2) (b.chains x.0 x.1);
     bases = λ i n h fits is.
@@ -238,7 +245,7 @@ module _ {s : Site} {t : VolumeTable} {read : Row → Option TreeRow} {xs : List
       g : IsGeometry s.geometry.extent s.geometry.block s.geometry.entries
       g = s.geometry.in_range
 
-  pub begun_orderly : (room : ℕ) → IsOrderly s t (begun_with xs places room)
+  pub begun_orderly : (room : ℕ) → IsOrderly s t (begun_with xs places ls room)
   unfolding shape_in refs
   begun_orderly room = record {
     table = b.table;
@@ -249,10 +256,10 @@ module _ {s : Site} {t : VolumeTable} {read : Row → Option TreeRow} {xs : List
     images = λ n image.
         faces_same read b.from t.volumes b.table.volumes.rising b.all (subst (λ ys. Distinct (map (λ i. image_uuid i.name) (map machine_row ys))) b.rows_are distinct) n image
         ∙ ap (λ ys. tree_face (tree_row ys n)) (sym b.rows_are);
-    logs = b.no_log;
-    few_logs = omega arith;
-    logs_in_order = rising_first;
-    log_room = λ l i. absurd i;
+    logs = log_faces log b.log_from t ls b.table.volumes.rising b.logs_are b.logs_in_order b.log_all;
+    few_logs = b.few_logs;
+    logs_in_order = b.logs_in_order;
+    log_room = b.log_room;
     places = b.long;
     entries = b.no_entry;
     stands = b.stands;

@@ -241,7 +241,7 @@ module _ (s : Site) (t : VolumeTable) (old : Held) (m : Known) (x : Name) (r : R
   pub ready_beside : IsReady s (applied t c) (at_rest (reads old)) m
   unfolding shape_in
   ready_beside = ready_rest s t (applied t c) old m m ready from (ap extents_of (mgt_stays s.count t c o.table h.allows)) refl
-      (holds_commit (holds_ready s t old m o ready) (applied t c) (λ u. row_still (Cbt u) (name_apart x h.image u)) (λ u. volume_rested s (applied t c) (reads old) (Cbt u))).logs
+      (holds_commit (holds_ready s t old m o ready) (applied t c) (IsTable-applied s.count t c o.table h.allows) (λ u. row_still (Cbt u) (name_apart x h.image u)) (λ u. volume_rested s (applied t c) (reads old) (Cbt u))).logs
       (volume_rested s (applied t c) (reads old))
       (below_alike was now m.op refl refl (λ n _. images_beside n) ready.firm.below)
     where

@@ -102,7 +102,7 @@ law_commit s t u old new m' before leaves ok was ds safe o' ready' commit is v i
 pub logged_commit : {s : Site} {t u : VolumeTable} {old new : Held} {ls : List Log} {leaves : Leaving} {ok : Type 0} → HoldsLogs s t old ls → IsTable s.count t → IsTable s.count u
     → ((w : List ℕ) → rows u (Cbt w) ≡ rows t (Cbt w)) → IsCommit s t u old new leaves ok → (v : VolumeTable) (image : ℕ → List ℕ) → leaves v image → IsLogged (content_in s v image) ls
 logged_commit {s} {t} {u} {old} holds table next same commit v image l =
-    logged_either holds (holds_commit holds u same (λ w. volume_rested s u (reads old) (Cbt w))) table next v image (commit.crash v image l)
+    logged_either holds (holds_commit holds u next same (λ w. volume_rested s u (reads old) (Cbt w))) table next v image (commit.crash v image l)
 
 pub law_single_commit : (s : Site) (t u : VolumeTable) (old new : Held) (m m' : Known) (before leaves : Leaving) (ok : Type 0) (ds : List Disk)
     → IsOrderly s t m → IsReady s t old m → IsOrderly s u m' → IsReady s u (at_rest (reads old)) m'

@@ -11,6 +11,7 @@ use Rattle.vg_meta.specs.Tables.{VolumeTable, Row, rows, extents_of, name_eq}
 use Rattle.vg_meta.specs.Changes.{Permits, applied, made}
 use Rattle.vg_meta.specs.declared.changes.Change.TheVariants.{Create}
 use Rattle.vg_meta.proofs.ByName.{changes_by_name, mgt_stays}
+use Rattle.vg_meta.proofs.ChangeLaws.{IsTable-applied}
 use Rattle.vg_meta.proofs.NameLaws.{name_eq-true, name_eq-false}
 use Rattle.vg_volumes.specs.Commits.{IsBefore}
 use Rattle.vg_volumes.specs.Sites.{Site, area_size}
@@ -159,7 +160,7 @@ module _ (s : Site) (t : VolumeTable) (old : Held) (m : Known) (x : Name) (es : 
   pub ready_new : IsReady s (applied t (Create x true es)) (at_rest (reads old)) m
   unfolding shape_in
   ready_new = ready_rest s t (applied t (Create x true es)) old m m ready from (ap extents_of (mgt_stays s.count t (Create x true es) o.table h.allows)) refl
-      (holds_commit (holds_ready s t old m o ready) (applied t (Create x true es)) (λ u. other_row (Cbt u) (name_apart x h.image u)) (λ u. volume_rested s (applied t (Create x true es)) (reads old) (Cbt u))).logs
+      (holds_commit (holds_ready s t old m o ready) (applied t (Create x true es)) (IsTable-applied s.count t (Create x true es) o.table h.allows) (λ u. other_row (Cbt u) (name_apart x h.image u)) (λ u. volume_rested s (applied t (Create x true es)) (reads old) (Cbt u))).logs
       (volume_rested s (applied t (Create x true es)) (reads old))
       (below_alike was now m.op refl refl (λ n _. images_same n) ready.firm.below)
     where

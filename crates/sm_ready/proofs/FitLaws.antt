@@ -1,6 +1,6 @@
 -- The text of a table of few images, of few logs and of one journal entry at most fits its slot, so that of a table of which memory is
 -- orderly.
-use Rattle.std.proofs.Common.{◌≡◌, suc, ℕ, ◌+◌, ◌*◌, ◌≤◌, Bool, true, false, cond, leb, List, [], ◌∷◌, length, filter, refl, sym, ap, ◌∙◌, subst, arith, length-append}
+use Rattle.std.proofs.Common.{◌≡◌, suc, ℕ, ◌+◌, ◌*◌, ◌<◌, ◌≤◌, Bool, true, false, cond, leb, List, [], ◌∷◌, length, filter, refl, sym, ap, ◌∙◌, subst, arith, length-append}
 use Rattle.std.specs.List.{AllByRecursion, flat_map}
 use Rattle.std.specs.List.Sorted.{IsStrictlySortedBy}
 use Rattle.std.specs.declared.cmp.Ordering.TheVariants.{Less}
@@ -26,6 +26,7 @@ use Rattle.vg_meta.proofs.SegmentLaws.{few-segments}
 use Rattle.vg_meta.proofs.SegmentTextLaws.{length-segmented}
 use Rattle.vg_meta.proofs.WriteLaws.{length-text, length-volume_text}
 use Rattle.vg_volumes.specs.Sites.{Site, text_limit}
+use Rattle.sm_ready.specs.Sessions.{row_limit}
 use Rattle.sm_ready.specs.Known.{Known, entry_of}
 use Rattle.sm_ready.specs.Orderly.{IsOrderly}
 use Rattle.sm_logs.specs.Held.{log_limit}
@@ -113,3 +114,9 @@ fits_few count t table extents few few_logs one = fits_entries count t table ext
 
 pub fits_orderly : (s : Site) (t : VolumeTable) (m : Known) → IsOrderly s t m → length (text t) ≤ text_limit s.count
 fits_orderly s t m o = fits_few s.count t o.table o.few_extents o.few (few_log_rows s t m o) (omega (arith, ap (λ (ns : List Name). length ns) o.entries, one_entry m.op))
+
+-- the table of an orderly store has fewer volumes than a table may come to have
+pub few_volumes : (s : Site) (t : VolumeTable) (m : Known) → IsOrderly s t m → length t.volumes < row_limit
+few_volumes s t m o =
+    let entries = ap (λ (ns : List Name). length ns) o.entries in
+    omega (arith, one_other t.volumes o.table.volumes.rising, o.few, few_log_rows s t m o, entries, one_entry m.op)

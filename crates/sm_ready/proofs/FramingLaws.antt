@@ -8,7 +8,7 @@ use Rattle.vg_volumes.specs.Sites.{Site}
 use Rattle.vg_volumes.specs.Stored.{Commits, FailsToCommit, IsChoiceOf, IsEitherOf, Leaves, OnlyReads, Stays, stored}
 use Rattle.vg_volumes.specs.declared.stores.Store.{Ghosts}
 use Rattle.sm_ready.specs.Framing.{IsBetweenSteps, StepsOn}
-use Rattle.sm_ready.specs.Frames.{HasCommits}
+use Rattle.sm_ready.specs.Frames.{HasCommits, IsNoLower}
 use Rattle.sm_ready.specs.Known.{known}
 use Rattle.sm_ready.specs.Orderly.{IsOrderly}
 use Rattle.sm_ready.specs.Ready.{IsTidy}
@@ -24,6 +24,14 @@ left_one g a b change crash = λ told t image l. by t image (crash told t image 
     by t image (inl i) = let is = ap (λ (v : VolumeTable). v.sequence) i.table_is in omega (arith, is)
     by t image (inr i) = let is = ap (λ (v : VolumeTable). v.sequence) i.table_is in omega (arith, is)
 
+-- and no number less
+left_no_lower : {S : Type 0} (g : Ghosts S) (a b : S) (change : Change) → Leaves g b (IsEitherOf (stored g a) change) → Leaves g b (λ t image. IsNoLower (table_alone (g.table a)) t)
+left_no_lower g a b change crash = λ told t image l. by t image (crash told t image l)
+  where
+    by : (t : VolumeTable) (image : ℕ → List ℕ) → IsEitherOf (stored g a) change t image → IsNoLower (table_alone (g.table a)) t
+    by t image (inl i) = let is = ap (λ (v : VolumeTable). v.sequence) i.table_is in omega (arith, is)
+    by t image (inr i) = let is = ap (λ (v : VolumeTable). v.sequence) i.table_is in omega (arith, is)
+
 module _ {S : Type 0} {g : Ghosts S} {a b : S} where
   -- a commit
   pub commit_steps : {change : Change} → Commits g change a b → Leaves g b (IsEitherOf (stored g a) change) → StepsOn g 1 a b
@@ -33,6 +41,8 @@ module _ {S : Type 0} {g : Ghosts S} {a b : S} where
     beside = c.beside;
     few = let is = ap (λ (t : VolumeTable). t.sequence) c.table in omega (arith, is);
     few_left = left_one g a b change crash;
+    no_lower = let is = ap (λ (t : VolumeTable). t.sequence) c.table in omega (arith, is);
+    no_lower_left = left_no_lower g a b change crash;
   }
 
   -- a commit that failed
@@ -43,6 +53,8 @@ module _ {S : Type 0} {g : Ghosts S} {a b : S} where
     beside = c.beside;
     few = let is = ap (λ (t : VolumeTable). t.sequence) c.table in omega (arith, is);
     few_left = left_one g a b change crash;
+    no_lower = let is = ap (λ (t : VolumeTable). t.sequence) c.table in omega (arith, is);
+    no_lower_left = left_no_lower g a b change crash;
   }
 
   -- a call that commits nothing, while no commit has failed
@@ -53,6 +65,8 @@ module _ {S : Type 0} {g : Ghosts S} {a b : S} where
     beside = s.beside;
     few = let is = ap (λ (t : VolumeTable). t.sequence) s.table in omega (arith, is);
     few_left = λ told t image l. let i = now told t image l in let is = ap (λ (v : VolumeTable). v.sequence) (i.table_is ∙ s.table) in omega (arith, is);
+    no_lower = let is = ap (λ (t : VolumeTable). t.sequence) s.table in omega (arith, is);
+    no_lower_left = λ told t image l. let i = now told t image l in let is = ap (λ (v : VolumeTable). v.sequence) (i.table_is ∙ s.table) in omega (arith, is);
   }
 
   -- the same by what a store says of all its states
@@ -79,6 +93,8 @@ then_steps x y = record {
   beside = λ told. Keeps-then (x.beside told) (y.beside told);
   few = let first = x.few in let second = y.few in omega (arith, first, second);
   few_left = λ told t image l. let first = x.few in let second = y.few_left told t image l in omega (arith, first, second);
+  no_lower = let first = x.no_lower in let second = y.no_lower in omega (arith, first, second);
+  no_lower_left = λ told t image l. let first = x.no_lower in let second = y.no_lower_left told t image l in omega (arith, first, second);
 }
 
 -- so many commits are no more than so many others
@@ -89,4 +105,6 @@ more_steps at x = record {
   beside = x.beside;
   few = let first = x.few in omega (arith, first, at);
   few_left = λ told t image l. let first = x.few_left told t image l in omega (arith, first, at);
+  no_lower = x.no_lower;
+  no_lower_left = x.no_lower_left;
 }

@@ -440,7 +440,7 @@ module _ (s : Site) (t : VolumeTable) (m : Known) (old new : Held) (own : Name) 
     };
     records = agrees_keeps (records_held s t new) (records_held s (after t own) (at_rest (held_reads new))) (set m.places k (Some r)) (kept_volume Mgt) f.agrees;
     recorded = volume_rested s (after t own) (held_reads new) Mgt;
-    logs = (holds_commit held_logs (after t own) (λ u. row_other s t m own added k r row h g (Cbt u) (name_apart own h.image u)) (λ u. volume_rested s (after t own) (held_reads new) (Cbt u))).logs;
+    logs = (holds_commit held_logs (after t own) (table_after s t m own added k r row h g) (λ u. row_other s t m own added k r row h g (Cbt u) (name_apart own h.image u)) (λ u. volume_rested s (after t own) (held_reads new) (Cbt u))).logs;
     logged = λ u. volume_rested s (after t own) (held_reads new) (Cbt u);
   }
     where

@@ -4,9 +4,10 @@ pub mod Orders
 pub mod LeftLaws
 pub mod AlikeLaws
 pub mod RowLaws
-pub mod LogOrder
+pub mod LogRead
 pub mod LogRows
 pub mod LogLaws
+pub mod SameLogs
 pub mod SoundLaws
 pub mod KeptLaws
 pub mod FreshLaws
@@ -35,6 +36,7 @@ pub mod StrayLaws
 pub mod StateLaws
 pub mod RepairLaws
 pub mod SizeLaws
+pub mod DiskShape
 pub mod NewVolumeLaws
 pub mod CleanLaws
 pub mod RowRoomLaws

@@ -207,34 +207,3 @@ module _ (read : Row → Option TreeRow) (from : (r : Row) (x : TreeRow) → rea
       by : (o : Option Row) → row_of rs n ≡ o → row_face o ≡ tree_face (tree_row (filter_map read rs) n)
       by None is = sym (ap tree_face (absent rs n (λ r i e. absurd (none-some r (sym is ∙ at r i e)))))
       by (Some r) is = of r is r.fresh refl
-
-  -- ---- their extents are extents of the table, beside those of the volume of records
-
-  abbrev sum_of : List TreeRow → ℕ
-  sum_of xs = image_extents (map machine_row xs)
-
-  extents_step : (r : Row) (xs : List TreeRow) (o : Option TreeRow) → read r ≡ o → sum_of (cons_option o xs) ≤ length r.extents + sum_of xs
-  unfolding image_extents
-  extents_step r xs None is = omega arith
-  extents_step r xs (Some x) is = omega (arith, (from r x is).extents)
-
-  extents_within : (rs : List Row) → sum_of (filter_map read rs) ≤ length (extents_in rs)
-  unfolding image_extents
-  extents_within [] = omega arith
-  extents_within (r ∷ rs) = omega (arith, extents_step r (filter_map read rs) (read r) refl, extents_within rs, length-append r.extents (extents_in rs))
-
-  not_read : (r : Row) (o : Option TreeRow) → r.name ≡ Mgt → read r ≡ o → o ≡ None
-  not_read r None named is = refl
-  not_read r (Some x) named is = absurd (true≢false (sym (from r x is).image ∙ ap is_image named))
-
-  pub extents_fit : (rs : List Row) → length (extents_of (row_of rs Mgt)) + sum_of (filter_map read rs) ≤ length (extents_in rs)
-  unfolding row_of image_extents
-  extents_fit [] = omega arith
-  extents_fit (r ∷ rs) = by (name_eq r.name Mgt) refl (extents_fit rs)
-    where
-      by : (b : Bool) → name_eq r.name Mgt ≡ b → length (extents_of (row_of rs Mgt)) + sum_of (filter_map read rs) ≤ length (extents_in rs)
-          → length (extents_of (cond b (Some r) (row_of rs Mgt))) + sum_of (filter_map read (r ∷ rs)) ≤ length (extents_in (r ∷ rs))
-      by true is rest =
-          let none = ap (λ o. sum_of (cons_option o (filter_map read rs))) (not_read r (read r) (name_eq-true r.name Mgt is) refl) in
-          omega (arith, none, extents_within rs, length-append r.extents (extents_in rs))
-      by false is rest = omega (arith, rest, extents_step r (filter_map read rs) (read r) refl, length-append r.extents (extents_in rs))

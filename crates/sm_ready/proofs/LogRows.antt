@@ -30,7 +30,7 @@ use Rattle.vg_meta.proofs.RowLaws.{All-row_of, row_of-name}
 use Rattle.vg_volumes.specs.Sites.{Site}
 use Rattle.sm_ready.specs.Known.{Face, Known, log_face, row_face}
 use Rattle.sm_ready.specs.Orderly.{IsOrderly}
-use Rattle.sm_ready.proofs.LogOrder.{logs_less}
+use Rattle.sm_base.proofs.LogOrder.{logs_less}
 use Rattle.sm_ready.proofs.Orders.{filled_face, fresh_face}
 use Rattle.sm_ready.proofs.RowLaws.{All-In, found_in, rising_rows, row_cmp}
 
@@ -88,7 +88,7 @@ pub log_in_list : (ls : List Log) (u : List ℕ) (l : Log) → log_of u ls ≡ S
 log_in_list ls u l e = let w = find-some (is_log_of u) ls l e in (w.0, (bytes_eq-Decides l.disk u).0 w.1)
 
 -- they rise by name too
-rising_logs : (ls : List Log) → ((l : Log) → In l ls → IsUuid l.disk) → IsRising ls → Rising log_cmp ls
+pub rising_logs : (ls : List Log) → ((l : Log) → In l ls → IsUuid l.disk) → IsRising ls → Rising log_cmp ls
 unfolding IsStrictlySortedBy
 rising_logs [] proper rising = tt
 rising_logs (x ∷ xs) proper rising = (
@@ -164,7 +164,7 @@ log_by ls (Relink child parent) = None
 log_by ls (Leaf leaf parent) = None
 
 -- it is in memory, and the name is that of its disk
-by_named : (ls : List Log) (n : Name) (l : Log) → log_by ls n ≡ Some l → In l ls × (n ≡ Cbt l.disk)
+pub by_named : (ls : List Log) (n : Name) (l : Log) → log_by ls n ≡ Some l → In l ls × (n ≡ Cbt l.disk)
 by_named ls (Cbt u) l e = let w = log_in_list ls u l e in (w.0, ap Cbt (sym w.1))
 by_named ls Mgt l e = absurd (none-some l e)
 by_named ls (Vhd u) l e = absurd (none-some l e)

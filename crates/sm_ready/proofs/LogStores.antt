@@ -72,7 +72,7 @@ module _ {S : Type 0} {g : Ghosts S} {ls : List Log} {a b : S} where
       let next = applied (tab g a) change in
       subst₂ (λ s t. HoldsLogs s t (g.area b) ls) (sym commit.site) (sym commit.table)
       (subst (λ x. HoldsLogs (g.site a) next x ls) (sym (rested (g.area a) (g.area b) (commit.keeps told) (commit.settled told)))
-      (holds_commit h next (log_rows_stay change table permits none) (λ u. volume_rested (g.site a) next (reads (g.area a)) (Cbt u))))
+      (holds_commit h next (IsTable-applied (g.site a).count (tab g a) change table permits) (log_rows_stay change table permits none) (λ u. volume_rested (g.site a) next (reads (g.area a)) (Cbt u))))
 
   -- and one that failed
   pub logs_failed : FailsToCommit g a b → g.told → HasLogs g a ls → HasLogs g b ls
@@ -95,5 +95,5 @@ module _ {S : Type 0} (g : Ghosts S) (a : S) {ls : List Log} (h : HasLogs g a ls
       → IsLogged (content_in (g.site a) v image) ls
   logs_either change permits none v image either =
       let next = applied (tab g a) change in
-      logged_either h (holds_commit h next (log_rows_stay change table permits none) (λ u. volume_rested (g.site a) next (reads (g.area a)) (Cbt u))) table
+      logged_either h (holds_commit h next (IsTable-applied (g.site a).count (tab g a) change table permits) (log_rows_stay change table permits none) (λ u. volume_rested (g.site a) next (reads (g.area a)) (Cbt u))) table
       (IsTable-applied (g.site a).count (tab g a) change table permits) v image either

@@ -345,7 +345,7 @@ law_remove s t old new m x r before leaves ok o ready g allows might commit =
     law_single_commit s t (applied t (Remove x)) old new m (without_row x m) before leaves ok (disks (content_now s t old)) o ready
     (orderly_removed s t m x r (record { disks = []; shape = shape_in s t m }) o g refl allows)
     (ready_rest s t (applied t (Remove x)) old m (without_row x m) ready from (ap extents_of (mgt_stays s.count t (Remove x) o.table allows)) refl
-    (holds_commit (holds_ready s t old m o ready) (applied t (Remove x)) (λ u. same_rows s t m x (Cbt u) o allows (name_apart x g.image u)) (λ u. volume_rested s (applied t (Remove x)) (reads old) (Cbt u))).logs
+    (holds_commit (holds_ready s t old m o ready) (applied t (Remove x)) (IsTable-applied s.count t (Remove x) o.table allows) (λ u. same_rows s t m x (Cbt u) o allows (name_apart x g.image u)) (λ u. volume_rested s (applied t (Remove x)) (reads old) (Cbt u))).logs
     (volume_rested s (applied t (Remove x)) (reads old)) (subst (IsBelow (after s t old x)) (sym g.idle) tt))
     might commit (removed_disks_same s t old m x r o ready g allows) refl
   where

@@ -9,6 +9,7 @@ use Rattle.sm_disk.proofs.HeldLaws.{Keeps-then}
 use Rattle.vg_meta.specs.Changes.{applied}
 use Rattle.vg_meta.specs.Tables.{VolumeTable, Row, rows, extents_of}
 use Rattle.vg_meta.specs.declared.changes.Change.TheVariants.{Remove}
+use Rattle.vg_meta.proofs.ChangeLaws.{IsTable-applied}
 use Rattle.vg_volumes.specs.Commits.{IsAfter}
 use Rattle.vg_volumes.specs.Sites.{Site, area_size, volume_of}
 use Rattle.vg_volumes.specs.Volumes.{span, spot, volume}
@@ -16,6 +17,7 @@ use Rattle.vg_volumes.proofs.VolumeLaws.{Keeps-volume}
 use Rattle.sm_record.specs.declared.records.Record.{Record}
 use Rattle.sm_mgt.specs.Places.{Agrees, records_held}
 use Rattle.sm_standing.specs.Images.{image_of}
+use Rattle.sm_standing.specs.LogChecks.{HasLogsOf}
 use Rattle.sm_standing.specs.Standing.{disks}
 use Rattle.vhd_chain.specs.Trees.{row_name}
 use Rattle.vhd_volumes.specs.Steady.{IsQuiet}
@@ -32,8 +34,10 @@ use Rattle.sm_ready.proofs.GoneLaws.{goes_alone}
 use Rattle.sm_ready.proofs.KeptLaws.{law_kept}
 use Rattle.sm_ready.proofs.LeftLaws.{IsLeft, image_quiet, left_in, left_now, ready_places}
 use Rattle.sm_ready.proofs.LogLaws.{holds_keeps, holds_ready}
+use Rattle.sm_ready.proofs.LogRows.{name_apart}
 use Rattle.sm_ready.proofs.OperationLaws.{below_alike}
 use Rattle.sm_ready.proofs.RestLaws.{ready_rest, steady_keeps}
+use Rattle.sm_ready.proofs.SameLogs.{raised_same, same_logs_commit, same_logs_keep, same_logs_left, same_logs_then}
 use Rattle.sm_ready.proofs.StrayLaws.{IsSwept, swept_disks, swept_in, with_places}
 
 volume_settled : (extent : ℕ) (es : List ℕ) (area : Held) → IsSettled area → IsSettled (volume extent es area)
@@ -57,8 +61,10 @@ ready_synced s t old new m ready keeps settled =
 -- what a stop leaves of a ready store in which nothing is pending
 pub same_left : (s : Site) (t : VolumeTable) (area : Held) (m : Known) (image : ℕ → List ℕ) → IsOrderly s t m → IsReady s t area m → IsSettled area → IsLeft s area image → IsSame (content_now s t area) (content_in s t image)
 same_left s t area m image o ready settled left = record {
+  table = o.table;
   kept = law_kept s t area m image o ready.firm (left_in s t m area image o left) (ready_places s t area m image o ready left);
   same_disks = law_settled s t area m image o ready (all_quiet s t area settled) left;
+  same_logs = same_logs_left (holds_ready s t area m o ready) o.table image left;
 }
 
 -- ---- a new volume goes
@@ -71,11 +77,22 @@ module _ (s : Site) (t : VolumeTable) (old : Held) (m : Known) (x : Name) (r : R
   pub gone_disks : (new : Held) → Keeps old new → IsSettled new → disks (content_now s (applied t (Remove x)) new) ≡ disks (content_now s t old)
   gone_disks new keeps settled = ap (λ a. disks (content_now s (applied t (Remove x)) a)) (rested old new keeps settled) ∙ disks_beside s t old m x r (Remove x) o ready h (goes_alone o.table h)
 
+  gone_logs : HasLogsOf (content_now s t old) (content_now s (applied t (Remove x)) (at_rest (reads old)))
+  gone_logs = same_logs_commit (holds_ready s t old m o ready) (applied t (Remove x)) (IsTable-applied s.count t (Remove x) o.table h.allows) (λ u. (goes_alone o.table h).others (Cbt u) (name_apart x h.image u)) (raised_same (Remove x) o.table)
+
+  pub gone_same_logs : (new : Held) → Keeps old new → IsSettled new → HasLogsOf (content_now s t old) (content_now s (applied t (Remove x)) new)
+  gone_same_logs new keeps settled = subst (λ a. HasLogsOf (content_now s t old) (content_now s (applied t (Remove x)) a)) (sym (rested old new keeps settled)) gone_logs
+
   -- a stop behind it
   pub gone_stop : (v : VolumeTable) (image : ℕ → List ℕ) → IsAfter (area_size s) (applied t (Remove x)) old v image → IsSame (content_now s t old) (content_in s v image)
   gone_stop v image after =
       let w = same_left s (applied t (Remove x)) (at_rest (reads old)) m image (orderly_beside s t m x r (Remove x) o h (goes_alone o.table h)) (ready_beside s t old m x r (Remove x) o ready h (goes_alone o.table h)) (λ p. refl) (λ p below. inl (after.sectors p below)) in
-      subst (λ l. IsSame (content_now s t old) (content_in s l image)) (sym after.table_is) (record { kept = w.kept; same_disks = w.same_disks ∙ disks_beside s t old m x r (Remove x) o ready h (goes_alone o.table h) })
+      subst (λ l. IsSame (content_now s t old) (content_in s l image)) (sym after.table_is) (record {
+        table = w.table;
+        kept = w.kept;
+        same_disks = w.same_disks ∙ disks_beside s t old m x r (Remove x) o ready h (goes_alone o.table h);
+        same_logs = same_logs_then gone_logs w.same_logs;
+      })
 
 -- ---- records of no disk are wiped, and a sync makes it last
 
@@ -98,6 +115,9 @@ module _ (s : Site) (t : VolumeTable) (m : Known) (old mid new : Held) (o : IsOr
     logs = (holds_keeps (holds_ready s t old m o ready) new (λ u. Keeps-then (swept.logs u) (Keeps-volume s.geometry.extent (extents_of (rows t (Cbt u))) keeps))).logs;
     logged = λ u. all_quiet s t new settled (Cbt u);
   }
+
+  pub swept_same_logs : HasLogsOf (content_now s t old) (content_now s t new)
+  swept_same_logs = same_logs_keep (holds_ready s t old m o ready) new (λ u. Keeps-then (swept.logs u) (Keeps-volume s.geometry.extent (extents_of (rows t (Cbt u))) keeps))
 
   pub swept_now : IsSettled old → disks (content_now s t new) ≡ disks (content_now s t old)
   swept_now settled =

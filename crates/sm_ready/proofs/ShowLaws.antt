@@ -12,7 +12,7 @@ use Rattle.sm_run.specs.Between.{IsSettledAs}
 use Rattle.sm_standing.specs.Keeping.{IsKept}
 use Rattle.sm_standing.specs.Standing.{disks}
 use Rattle.sm_ready.specs.Known.{known}
-use Rattle.sm_ready.specs.Sessions.{KeepsAll, store_state}
+use Rattle.sm_ready.specs.Sessions.{store_state}
 use Rattle.sm_ready.specs.Stores.{MayShow, StoreLeaves, content_in, store_content}
 use Rattle.sm_ready.specs.declared.memory.Memory.{Memory}
 use Rattle.sm_ready.proofs.AlikeLaws.{faces_alike}
@@ -27,7 +27,7 @@ module _ {S : Type 0} {g : Ghosts S} {a : S} {m : Memory} (h : IsTold g a m) whe
   left v image l = left_choice g.told (g.site a) (table_alone (g.table a)) (g.area a) (g.leaves a) (g.failed a) h.now v image l
 
   -- whatever a stop leaves is kept
-  pub kept_ready : KeepsAll (g.site a) (StoreLeaves g a)
+  pub kept_ready : (v : VolumeTable) (image : ℕ → List ℕ) → StoreLeaves g a v image → IsKept (content_in (g.site a) v image)
   kept_ready v image l =
       let is = left v image l in
       subst (λ y. IsKept (content_in (g.site a) y image)) (sym is.table_is)

@@ -40,7 +40,7 @@ logs_now s t area m o logged no_stray =
     ∙ filter_all (λ l. is_some (standing_volume t l.disk)) m.logs (λ l i. shown_stands s t m l.disk o (no_stray l i))
   where
     by_log : (n : Name) → log_named (content_now s t area) n ≡ log_by m.logs n
-    by_log (Cbt u) = logged u
+    by_log (Cbt u) = (logged u).read
     by_log Mgt = refl
     by_log (Vhd u) = refl
     by_log (Raw u) = refl

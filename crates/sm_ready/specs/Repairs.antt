@@ -6,13 +6,14 @@ use Rattle.sm_base.specs.declared.names.Name.{Name}
 use Rattle.sm_machine.specs.Operations.{Idle}
 use Rattle.sm_disk.specs.Held.{Held, IsSettled, May}
 use Rattle.sm_disk.specs.Sectors.{zeros}
-use Rattle.vg_meta.specs.Tables.{VolumeTable, Row, rows}
+use Rattle.vg_meta.specs.Tables.{IsTable, VolumeTable, Row, rows}
 use Rattle.vg_volumes.specs.Stored.{Leaves, Stored, stored}
 use Rattle.vg_volumes.specs.declared.stores.Store.{Ghosts}
 use Rattle.sm_record.specs.declared.records.Record.{Record}
 use Rattle.sm_standing.specs.Contents.{Content}
 use Rattle.sm_standing.specs.Images.{image_of}
 use Rattle.sm_standing.specs.Keeping.{IsKept}
+use Rattle.sm_standing.specs.LogChecks.{HasLogsOf}
 use Rattle.sm_standing.specs.Standing.{standing_volume, disks}
 use Rattle.sm_ready.specs.Known.{Known}
 use Rattle.sm_ready.specs.Orderly.{IsOrderly}
@@ -30,16 +31,19 @@ pub record IsAtRest (x : Stored) (m : Known) : Type 0 where
 abbrev pub content_of : Stored → Content
 content_of x = content_now x.site x.table x.area
 
--- a content is kept, and has the disks of another
+-- a content is kept, has the disks of another, and its logs, and its table is one
 pub record IsSame (was now : Content) : Type 0 where
+  pub table : IsTable now.count now.table
   pub kept : IsKept now
   pub same_disks : disks now ≡ disks was
+  pub same_logs : HasLogsOf was now
 
--- what was at rest with one memory is so with another, which has the same logs, and the store has the same disks and images
+-- what was at rest with one memory is so with another, which has the same logs, and the store has the same disks, logs and images
 pub record RestsAgain (old new : Stored) (before after : Known) : Type 0 where
   pub rest : IsAtRest old before → IsAtRest new after
   pub same_disks : IsAtRest old before → disks (content_of new) ≡ disks (content_of old)
   pub same_logs : after.logs ≡ before.logs
+  pub logs_kept : IsAtRest old before → HasLogsOf (content_of old) (content_of new)
   pub same_images : IsAtRest old before → (n : Name) → image_of (content_of new) n ≡ image_of (content_of old) n
 
 -- this place in memory has the record of no disk

@@ -8,7 +8,7 @@ use Rattle.vg_volumes.specs.Sites.{Site}
 use Rattle.vg_volumes.specs.declared.stores.Store.{Ghosts}
 use Rattle.sm_machine.specs.Shapes.{image_limit}
 use Rattle.sm_machine.specs.Steps.{State}
-use Rattle.sm_standing.specs.Keeping.{IsKept}
+use Rattle.sm_standing.specs.LogChecks.{IsKeptWithLogs}
 use Rattle.sm_standing.specs.Standing.{disks}
 use Rattle.sm_ready.specs.Known.{Known, known, shape_in}
 use Rattle.sm_ready.specs.Orderly.{IsOrderly}
@@ -36,9 +36,9 @@ state_in s t area m = record { disks = disks (content_now s t area); shape = sha
 abbrev pub store_state : {S : Type 0} → Ghosts S → S → Memory → State
 store_state g s m = state_in (g.site s) (table_alone (g.table s)) (g.area s) (known m)
 
--- whatever a stop leaves of a store is kept
+-- whatever a stop leaves of a store is kept, and the check of its logs passes
 abbrev pub KeepsAll : Site → Leaving → Type 0
-KeepsAll site leaves = (t : VolumeTable) (image : ℕ → List ℕ) → leaves t image → IsKept (content_in site t image)
+KeepsAll site leaves = (t : VolumeTable) (image : ℕ → List ℕ) → leaves t image → IsKeptWithLogs (content_in site t image)
 
 -- the most rows that a table may come to have: those of 500 images, of 500 logs, of the volume of records, and of 4 journal entries
 abbrev pub row_limit : ℕ
