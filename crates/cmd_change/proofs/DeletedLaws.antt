@@ -104,7 +104,7 @@ module _ {s : Site} {t : VolumeTable} {m : Known} {u : List ℕ} (h : IsToDelete
   -- memory is ready on a device at rest
   pub ready_less : IsReady s next (at_rest (reads old)) (without_image_of x m)
   ready_less = ready_rest s t next old m (without_image_of x m) ready from (ap extents_of (mgt_stays s.count t (Remove x) h.orderly.table (may_go h))) refl
-      (holds_commit (holds_ready s t old m h.orderly ready) next (λ u. (changes_by_name s.count t (Remove x) h.orderly.table (may_go h)).others (Cbt u) (name_apart x (named_image h) u))
+      (holds_commit (holds_ready s t old m h.orderly ready) next (orderly_less h).table (λ u. (changes_by_name s.count t (Remove x) h.orderly.table (may_go h)).others (Cbt u) (name_apart x (named_image h) u))
       (λ u. volume_rested s next (reads old) (Cbt u))).logs
       (volume_rested s next (reads old))
       (below_alike was now m.op refl refl (λ n works. images n (λ same. ∥∥₁_elim h.orderly.well_formed (hlevel props) (λ w. apart h w n works same))) ready.firm.below)

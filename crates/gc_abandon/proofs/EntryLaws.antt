@@ -22,7 +22,7 @@ use Rattle.sm_machine.specs.WellFormed.{IsChild, IsOperation, IsWellFormed, is_i
 use Rattle.sm_record.specs.Records.{reading}
 use Rattle.sm_standing.specs.Checks.{has_twin, is_misnamed}
 use Rattle.sm_standing.specs.Contents.{Content, record_of, sectors_of}
-use Rattle.sm_standing.specs.Logs.{log_at, log_read}
+use Rattle.sm_standing.specs.Logs.{IsLogged, log_at, log_read}
 use Rattle.sm_standing.specs.Entries.{are_past, is_past, is_there, is_visible, names_in, of_row, uuids_in}
 use Rattle.sm_standing.specs.Images.{image_of}
 use Rattle.sm_standing.specs.Ordered.{Rising}
@@ -46,7 +46,7 @@ use Rattle.sm_ready.proofs.Orders.{geometry_of, named_row, whole}
 use Rattle.sm_ready.proofs.RestLaws.{ready_rest}
 use Rattle.sm_ready.proofs.RowLaws.{All-In, In-names, found_in, image_named, tree_found, volume_there}
 use Rattle.sm_ready.proofs.NumberLaws.{is_base_of, number_of_base}
-use Rattle.sm_base.proofs.KindLaws.{image-no_entry}
+use Rattle.sm_base.proofs.KindLaws.{entry-no_image, entry-no_log, image-no_entry}
 use Rattle.sm_standing.proofs.NamedLaws.{all_past}
 use Rattle.sm_standing.proofs.UndoneLaws.{named_found}
 use Rattle.sm_standing.proofs.DisksShown.{row_of-In}
@@ -106,9 +106,9 @@ as_many test count a b a_table b_table same =
     rising_in : (x : VolumeTable) → IsTable count x → Rising name_cmp (names_in x test)
     rising_in x table = rising_kept test (names_of x.volumes) (rising_names (names_of x.volumes) table.volumes.rising)
 
--- a new volume is an image's
-pub fresh_image : (r : Row) → IsVolume r → r.fresh ≡ true → is_image r.name ≡ true
-fresh_image r v new = by (is_image r.name) refl
+-- a new volume is no journal entry's
+pub fresh_no_entry : (r : Row) → IsVolume r → r.fresh ≡ true → is_entry r.name ≡ false
+fresh_no_entry r v new = by (is_image r.name) (is_log r.name) (is_entry r.name) refl refl refl
   where
     some_extents : Bool
     some_extents = nat_lt 0 (length r.extents)
@@ -116,13 +116,16 @@ fresh_image r v new = by (is_image r.name) refl
     no_extents : Bool
     no_extents = not (is_entry r.name) || (length r.extents == 0)
 
-    by : (b : Bool) → is_image r.name ≡ b → b ≡ true
-    by true e = refl
-    by false e =
-        let unmarked : Bool = not r.hidden && (not r.fresh && no_extents) in
-        let other : (not (is_log r.name) && unmarked) ≡ true = sym (ap (λ b. cond b some_extents (not (is_log r.name) && unmarked)) e) ∙ v.kind in
-        let kind = (and_parts (not (is_log r.name)) unmarked other).1 in
-        let old = (and_parts (not r.fresh) no_extents (and_parts (not r.hidden) (not r.fresh && no_extents) kind).1).0 in
+    unmarked : Bool
+    unmarked = not r.hidden && (not r.fresh && no_extents)
+
+    by : (image log entry : Bool) → is_image r.name ≡ image → is_log r.name ≡ log → is_entry r.name ≡ entry → entry ≡ false
+    by image log false is_i is_l is_e = refl
+    by true log true is_i is_l is_e = absurd (true≢false (sym is_i ∙ entry-no_image r.name is_e))
+    by false true true is_i is_l is_e = absurd (true≢false (sym is_l ∙ entry-no_log r.name is_e))
+    by false false true is_i is_l is_e =
+        let plain : unmarked ≡ true = sym (ap₂ (λ a b. cond a some_extents (cond b (not r.hidden && some_extents) unmarked)) is_i is_l) ∙ v.kind in
+        let old = (and_parts (not r.fresh) no_extents (and_parts (not r.hidden) (not r.fresh && no_extents) plain).1).0 in
         absurd (true≢false (sym old ∙ ap not new))
 
 -- ---- the machine's shape
@@ -280,9 +283,10 @@ module _ (s : Site) (t u : VolumeTable) (m : Known) (o : IsOrderly s t m) (e : I
 
   named : (r : Row) → In r u.volumes → r.fresh ≡ true → (is_misnamed u r ≡ false) × (is_image_name r.name ≡ true)
   named r i new =
-      let image = fresh_image r (All-In IsVolume u.volumes r e.table.volumes.each i) new in
+      let other = fresh_no_entry r (All-In IsVolume u.volumes r e.table.volumes.each i) new in
       let here = found_in u.volumes e.table.volumes.rising r i in
-      let was = o.new_named r (row_of-In t.volumes r.name r (sym (image_row r.name image) ∙ here)).0 new in
+      let was = o.new_named r (row_of-In t.volumes r.name r (sym (e.same r.name other) ∙ here)).0 new in
+      let image = image_named r.name was.1 in
       let right : (has_twin t r.name || not (are_past t r.name)) ≡ false = sym (ap (λ b. b && (has_twin t r.name || not (are_past t r.name))) image) ∙ was.0 in (
         ap (λ b. b && (has_twin u r.name || not (are_past u r.name))) image
             ∙ still_named (are_past t r.name) (has_twin u r.name) (has_twin t r.name) (are_past u r.name) (twin_same r.name) right (e.past r.name image (ap is_some here)),
@@ -341,8 +345,8 @@ tidy_entry s t u m x e tidy = record { none_new = λ r i. by r i r.fresh refl; n
     by : (r : Row) → In r u.volumes → (b : Bool) → r.fresh ≡ b → r.fresh ≡ false
     by r i false is = is
     by r i true is =
-        let image = fresh_image r (All-In IsVolume u.volumes r e.table.volumes.each i) is in
-        tidy.none_new r (row_of-In t.volumes r.name r (sym (e.same r.name (image-no_entry r.name image)) ∙ found_in u.volumes e.table.volumes.rising r i)).0
+        let other = fresh_no_entry r (All-In IsVolume u.volumes r e.table.volumes.each i) is in
+        tidy.none_new r (row_of-In t.volumes r.name r (sym (e.same r.name other) ∙ found_in u.volumes e.table.volumes.rising r i)).0
 
 -- ---- what is held
 
@@ -351,12 +355,14 @@ pub record HasSameExtents (t u : VolumeTable) (m : Known) : Type 0 where
   pub images : (r : TreeRow) → In r m.rows → extents_of (rows u (row_name r)) ≡ extents_of (rows t (row_name r))
   pub records : extents_of (rows u Mgt) ≡ extents_of (rows t Mgt)
   pub logs : (v : List ℕ) → rows u (Cbt v) ≡ rows t (Cbt v)
+  pub among : (v : List ℕ) (r : Row) → In r u.volumes → r.name ≡ Cbt v → In r t.volumes
 
 pub extents_entry : (s : Site) (t u : VolumeTable) (m : Known) → IsOrderly s t m → IsReentered s t u → HasSameExtents t u m
 extents_entry s t u m o e = record {
   images = λ r i. ap extents_of (e.same (row_name r) (image-no_entry (row_name r) (image_named (row_name r) (named_row s t m r o i))));
   records = ap extents_of (e.same Mgt refl);
   logs = λ v. e.same (Cbt v) refl;
+  among = λ v r i named. (row_of-In t.volumes (Cbt v) r (sym (e.same (Cbt v) refl) ∙ ap (rows u) (sym named) ∙ found_in u.volumes e.table.volumes.rising r i)).0;
 }
 
 module _ (s : Site) (t u : VolumeTable) (m : Known) (x : Op) (h : HasSameExtents t u m) where
@@ -364,6 +370,9 @@ module _ (s : Site) (t u : VolumeTable) (m : Known) (x : Op) (h : HasSameExtents
   logs_entry : (image : ℕ → List ℕ) (v : List ℕ) → log_at (content_in s u image) v ≡ log_at (content_in s t image) v
   unfolding log_at sectors_of
   logs_entry image v = ap (λ (o : Option Row). o >>= (λ r. cond r.fresh None (log_read v (length r.extents) (piece s.geometry.extent (extents_of o) image)))) (h.logs v)
+
+  logged_entry : (image : ℕ → List ℕ) → IsLogged (content_in s t image) m.logs → IsLogged (content_in s u image) m.logs
+  logged_entry image logged v = record { read = logs_entry image v ∙ (logged v).read; there = λ r i named full. (logged v).there r (h.among v r i named) named full }
 
   -- what is ready is so under the other table, on the same area
   pub ready_entry : (area : Held) → IsReady s t area m → IsBelow (content_now s u area) x → IsReady s u area (record m { op = x })
@@ -377,14 +386,14 @@ module _ (s : Site) (t u : VolumeTable) (m : Known) (x : Op) (h : HasSameExtents
     };
     records = subst (λ es. Agrees (volume s.geometry.extent es area) m.places) (sym h.records) ready.records;
     recorded = subst (λ es. IsQuiet (volume s.geometry.extent es area)) (sym h.records) ready.recorded;
-    logs = λ v. logs_entry (reads area) v ∙ ready.logs v;
+    logs = logged_entry (reads area) ready.logs;
     logged = λ v. subst (λ es. IsQuiet (volume s.geometry.extent es area)) (sym (ap extents_of (h.logs v))) (ready.logged v);
   }
 
   -- and on what a read gave, with nothing pending
   pub ready_rested : (old : Held) → IsReady s t old m → IsBelow (content_now s u (at_rest (reads old))) x → IsReady s u (at_rest (reads old)) (record m { op = x })
   ready_rested old ready below = ready_rest s t u old m (record m { op = x }) ready (λ r i. record { row = r; there = i; image = refl; extents = refl; same = h.images r i }) h.records refl
-      (λ v. logs_entry (reads old) v ∙ ready.logs v) (volume_rested s u (reads old)) below
+      (logged_entry (reads old) ready.logs) (volume_rested s u (reads old)) below
 
 -- ---- what is shown
 

@@ -163,7 +163,7 @@ module _ (s : Site) (t : VolumeTable) (m : Known) (u twin : List ℕ) (read_only
     -- ---- logs
 
     pub moment_logged : IsLogged b m.logs
-    moment_logged = logged_as (holds_ready s t old m o ready) v image (λ d. h.others (Cbt d) refl) (λ d p below. kept_sector (Cbt d) (Cbt d) (same_size (Cbt d) refl) (g.others (Cbt d) refl (λ e. let x = e in cc)) p below)
+    moment_logged = logged_as (holds_ready s t old m o ready) v h.table image (λ d. h.others (Cbt d) refl) (λ d p below. kept_sector (Cbt d) (Cbt d) (same_size (Cbt d) refl) (g.others (Cbt d) refl (λ e. let x = e in cc)) p below)
 
     -- ---- images
 

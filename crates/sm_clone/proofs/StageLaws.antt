@@ -8,7 +8,7 @@ use Rattle.sm_base.specs.Names.{IsName, name_cmp}
 use Rattle.sm_base.specs.declared.names.Name.{Name}
 use Rattle.sm_base.specs.declared.names.Name.TheVariants.{Mgt}
 use Rattle.sm_base.proofs.KindLaws.{image-no_entry, entry-no_log}
-use Rattle.vg_meta.specs.Tables.{IsTable, Row, VolumeTable, extents_in, is_one_of, name_eq, names_of, row_of, rows}
+use Rattle.vg_meta.specs.Tables.{IsTable, Row, VolumeTable, extents_in, is_one_of, name_eq, names_of, row_of, rows, suits}
 use Rattle.vg_meta.specs.Changes.{AreFree, Permits, applied, made, put, put_some, renamed, tagged, with_row, without}
 use Rattle.vg_meta.specs.declared.changes.Change.TheVariants.{Create, Mark, Remove, Rename}
 use Rattle.vg_meta.specs.declared.changes.Tag.TheVariants.{Fresh, Hidden}
@@ -347,9 +347,9 @@ module _ (count : ℕ) (t : VolumeTable) (o b l w e : Name) (own twins : List �
   }
 
   -- the new volume of an image with extents has its kind
-  new_kind : (n : Name) (es : List ℕ) → is_image n ≡ true → 0 < length es
-      → cond (is_image n) (nat_lt 0 (length es)) (not (is_log n) && (not false && (not true && (not (is_entry n) || (length es == 0))))) ≡ true
-  new_kind n es image some = ap (λ x. cond x (nat_lt 0 (length es)) (not (is_log n) && (not false && (not true && (not (is_entry n) || (length es == 0)))))) image ∙ lt-ltb 0 (length es) some
+  new_kind : (n : Name) (es : List ℕ) → is_image n ≡ true → 0 < length es → suits (made n true es) ≡ true
+  new_kind n es image some =
+      ap (λ x. cond x (nat_lt 0 (length es)) (cond (is_log n) (not false && nat_lt 0 (length es)) (not false && (not true && (not (is_entry n) || (length es == 0)))))) image ∙ lt-ltb 0 (length es) some
 
   pub may_4 : Permits count table_3 (Create l true own)
   may_4 = record { name_proper = h.leaf_proper; new_name = stage_3.leaf; not_mgt = not_mgt l h.leaf_image; kind = new_kind l own h.leaf_image h.some_own; extents_free = own_free }

@@ -245,7 +245,7 @@ module _ (s : Site) (t : VolumeTable) (m : Known) (u es : List ℕ) (row : TreeR
     };
     records = agrees_keeps (records_held s t old) (records_held s (ended s t m u es row h) last) m.places (other_keeps Mgt (λ same. (let x = same in cc)) (λ same. (let x = same in cc))) ready.records;
     recorded = volume_rested s (ended s t m u es row h) (reads area) Mgt;
-    logs = logged_as (holds_ready s t old m h.orderly ready) (ended s t m u es row h) (reads last) (λ v. ended_other s t m u es row h (Cbt v) (image_apart (Vhd u) refl v))
+    logs = logged_as (holds_ready s t old m h.orderly ready) (ended s t m u es row h) (orderly_ended s t m u es row h).table (reads last) (λ v. ended_other s t m u es row h (Cbt v) (image_apart (Vhd u) refl v))
         (λ v p below. other_there (Cbt v) (image_apart (Vhd u) refl v) refl p below);
     logged = λ v. volume_rested s (ended s t m u es row h) (reads area) (Cbt v);
   }

@@ -285,7 +285,7 @@ module _ (s : Site) (t : VolumeTable) (m : Known) (u : List ℕ) (to : ℕ) (row
       };
       records = agrees_keeps (records_held s t old) (records_held s table_cut last) m.places (other_keeps Mgt (λ is. (let x = is in cc))) ready.records;
       recorded = volume_rested s table_cut (reads area) Mgt;
-      logs = logged_as (holds_ready s t old m h.orderly ready) table_cut (reads last) (λ v. cut_other s t m u to row h (Cbt v) (image_apart (Vhd u) refl v))
+      logs = logged_as (holds_ready s t old m h.orderly ready) table_cut orderly_then.table (reads last) (λ v. cut_other s t m u to row h (Cbt v) (image_apart (Vhd u) refl v))
           (λ v p below. other_sector (Cbt v) (image_apart (Vhd u) refl v) p below);
       logged = λ v. volume_rested s table_cut (reads area) (Cbt v);
     }

@@ -246,11 +246,11 @@ module _ {S : Type 0} {g : Ghosts S} {a : S} {m : Memory} {u es : List ℕ} {row
     holds = holds_ready s t (g.area a) (known m) h.grows.orderly ready
 
     holds_noted : HoldsLogs s (noted s t (known m) u es row h.grows) rest (known m).logs
-    holds_noted = holds_commit holds (noted s t (known m) u es row h.grows) (λ v. noted_other s t (known m) u es row h.grows (g.area a) ready (Cbt v) (entry_apart (Inflate u row.extents) refl v))
+    holds_noted = holds_commit holds (noted s t (known m) u es row h.grows) (noted_table s t (known m) u es row h.grows) (λ v. noted_other s t (known m) u es row h.grows (g.area a) ready (Cbt v) (entry_apart (Inflate u row.extents) refl v))
         (λ v. volume_rested s (noted s t (known m) u es row h.grows) (reads (g.area a)) (Cbt v))
 
     holds_larger : HoldsLogs s t2 rest (known m).logs
-    holds_larger = holds_commit holds t2 (λ v. larger_other s t (known m) u es row h.grows (g.area a) ready (Cbt v) (entry_apart (Inflate u row.extents) refl v) (image_apart (Vhd u) refl v))
+    holds_larger = holds_commit holds t2 (larger_table s t (known m) u es row h.grows) (λ v. larger_other s t (known m) u es row h.grows (g.area a) ready (Cbt v) (entry_apart (Inflate u row.extents) refl v) (image_apart (Vhd u) refl v))
         (λ v. volume_rested s t2 (reads (g.area a)) (Cbt v))
 
     holds_written : (area : Held) → WritesEnd s t2 (Vhd u) o to rest area → HoldsLogs s t2 area (known m).logs
