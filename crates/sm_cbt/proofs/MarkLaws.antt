@@ -120,7 +120,7 @@ log_disk u logs l e = bytes_eq-same l.disk u (find-some (is_log_of u) logs l e).
 pub touched_long : (start count : ℕ) (l : Log) → length (touched start count l).bits ≡ length l.bits
 touched_long start count l = marked-long (pieces_touched start count) l.bits
 
-some_more : (o : Option Log) (P Q : Log → Type 0) → ((l : Log) → P l → Q l) → IfSome o P → IfSome o Q
+pub some_more : (o : Option Log) (P Q : Log → Type 0) → ((l : Log) → P l → Q l) → IfSome o P → IfSome o Q
 some_more None P Q more h = tt
 some_more (Some l) P Q more h = more l h
 
