@@ -1,0 +1,45 @@
+-- What a call that changes logs, and no disk, did to a store and to the memory beside it.
+use Rattle.std.specs.Prelude.{◌≡◌, ◌⊎◌, ℕ, ◌<◌, List, length, Option, Some}
+use Rattle.sm_disk.specs.Held.{IsSettled}
+use Rattle.vg_meta.specs.Tables.{VolumeTable}
+use Rattle.vg_volumes.specs.declared.stores.Store.{Ghosts}
+use Rattle.sm_log.specs.Logs.{Log, bit, log_of}
+use Rattle.sm_standing.specs.Contents.{Content}
+use Rattle.sm_standing.specs.Keeping.{IsKept}
+use Rattle.sm_standing.specs.Logs.{IsLogOf}
+use Rattle.sm_standing.specs.Standing.{disks}
+use Rattle.sm_ready.specs.Sessions.{IsReadyStore}
+use Rattle.sm_ready.specs.Stores.{MayShow, StoreLeaves, content_in, store_content}
+use Rattle.sm_ready.specs.declared.memory.Memory.{Memory}
+
+-- ---- which logs a stop may leave
+
+-- a log between two: it has the since of the one from after, each bit is as it was before or as it is after, and all else is as it was before
+pub record IsLogBetween (old new l : Log) : Type 0 where
+  pub disk : l.disk ≡ old.disk
+  pub extents : l.extents ≡ old.extents
+  pub tag : l.tag ≡ old.tag
+  pub since : l.since ≡ new.since
+  pub pieces : length l.bits ≡ length old.bits
+  pub bits : (k : ℕ) → k < length old.bits → (bit l.bits k ≡ bit old.bits k) ⊎ (bit l.bits k ≡ bit new.bits k)
+
+abbrev pub AreBetween : Option Log → Option Log → Option Log → Type 0
+AreBetween (Some old) (Some new) (Some l) = IsLogBetween old new l
+AreBetween _ _ _ = ⊥
+
+-- of each disk a content has the log from before, the one from after, or one between
+abbrev pub IsLoggedBetween : Content → List Log → List Log → Type 0
+IsLoggedBetween c old new = (u : List ℕ) → (o : Option Log) × IsLogOf c u o × ((o ≡ log_of u old) ⊎ ((o ≡ log_of u new) ⊎ AreBetween (log_of u old) (log_of u new) o))
+
+-- ---- a call
+
+-- A call that is to change the logs of memory into these: the disks stay. Where it succeeded the sectors are as memory says, and nothing is
+-- pending where nothing was. Whatever a stop leaves is kept, shows disks that it might have shown before, and has logs between those of
+-- memory before the call and these.
+pub record HasChangedLogs {S : Type 0} (g : Ghosts S) (old : S) (m : Memory) (new : S) (n : Memory) (ls : List Log) (ok : Type 0) : Type 0 where
+  pub ready : ok → IsReadyStore g new n
+  pub settled : ok → IsSettled (g.area old) → IsSettled (g.area new)
+  pub shown : disks (store_content g new) ≡ disks (store_content g old)
+  pub crash : (v : VolumeTable) (image : ℕ → List ℕ) → StoreLeaves g new v image
+      → IsKept (content_in (g.site old) v image) × MayShow (g.site old) (StoreLeaves g old) (disks (content_in (g.site old) v image))
+  pub logged : (v : VolumeTable) (image : ℕ → List ℕ) → StoreLeaves g new v image → IsLoggedBetween (content_in (g.site old) v image) m.logs ls
