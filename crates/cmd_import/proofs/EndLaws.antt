@@ -3,7 +3,8 @@ use Rattle.std.proofs.Common.{◌≡◌, inr, ℕ, ◌+◌, ◌-◌, ◌*◌, �
 use Rattle.std.specs.Int.{div_ceil}
 use Rattle.std.specs.Prelude.{IfSome, OnOk}
 use Rattle.std.proofs.lemmas.Bool.{true≢false}
-use Rattle.common_laws.specs.Lists.{numbers}
+use Rattle.common_laws.specs.Lists.{In, numbers}
+use Rattle.common_laws.proofs.Lists.{In-insert_old}
 use Rattle.sm_base.proofs.NumberLemmas.{div_up-div_ceil}
 use Rattle.sm_base.specs.Names.{base_uuid}
 use Rattle.sm_base.specs.declared.names.Name.{Name}
@@ -16,6 +17,7 @@ use Rattle.vhd_chain.specs.Trees.{with_row}
 use Rattle.vhd_image.specs.declared.images.Body.{Body}
 use Rattle.vhd_image.specs.declared.images.Body.TheVariants as body
 use Rattle.sm_ready.proofs.ChainLaws.{tab}
+use Rattle.sm_ready.proofs.FramingLaws.{stays_now}
 use Rattle.sm_base.specs.declared.sizes.Geometry.{Geometry}
 use Rattle.sm_disk.specs.Held.{reads}
 use Rattle.sm_machine.specs.Disks.{Disk, with_disk}
@@ -41,8 +43,9 @@ use Rattle.vhd_import.specs.declared.faults.ImportFault.{ImportFault}
 use Rattle.vhd_import.specs.declared.faults.ImportFault.TheVariants.{Device}
 use Rattle.sm_importing.specs.Disks.{Begin, HoldsPuts, IsFilled, IsSince}
 use Rattle.sm_importing.specs.Endings.{CompletesImporting, marked, row_of}
-use Rattle.sm_importing.specs.Imports.{ImportsSince, IsImporting, extents_of_volume}
+use Rattle.sm_importing.specs.Imports.{GoesNoLower, ImportsSince, IsImporting, extents_of_volume}
 use Rattle.sm_importing.proofs.ImportLaws.{LeavesNow, importing_works, since_works}
+use Rattle.sm_importing.proofs.LowerLaws.{lower_same, lower_step}
 use Rattle.cmd_import.specs.Ends.{HasMadeIn, import_record, target_from}
 use Rattle.cmd_import.specs.Importing.{HasImported, HasNewImage, IsJoined, whole_blocks}
 use Rattle.cmd_import.proofs.StillLaws.{since_at}
@@ -73,6 +76,10 @@ module _ {S : Type 0} (g : Ghosts S) (b d : S) (m : Memory) (u : List ℕ) (f : 
     abbrev was : List Disk
     was = disks (store_content g a)
 
+    still_there : (d : Disk) → In d was → In d (with_disk disk was)
+    unfolding with_disk
+    still_there d i = In-insert_old _ disk was d i
+
     one_joined : (o : Option (List ℕ)) → IfSome o (λ bs. IsMadeOf (target_from g a m) bs sectors made.puts) → IfSome o (λ bs. IsJoined (target_from g a m) u bs was (with_disk disk was))
     one_joined None h = tt
     one_joined (Some bs) h = record {
@@ -89,6 +96,7 @@ module _ {S : Type 0} (g : Ghosts S) (b d : S) (m : Memory) (u : List ℕ) (f : 
           record {
             ends = with_disk disk was;
             ends_with = one_joined bytes made.made;
+            still = still_there;
             done = record {
               ready = λ sure. done.ready fine;
               settled = λ sure. done.settled fine;
@@ -104,6 +112,7 @@ module _ {S : Type 0} (g : Ghosts S) (b d : S) (m : Memory) (u : List ℕ) (f : 
           record {
             ends = with_disk disk was;
             ends_with = inr (one_joined bytes made.made);
+            still = still_there;
             done = record {
               ready = λ sure. absurd (true≢false (sym sure));
               settled = λ sure. absurd (true≢false (sym sure));
@@ -121,6 +130,10 @@ few_works works = let same = ap (λ (t : VolumeTable). t.sequence) works.stays.t
 
 pub few_then : {S : Type 0} {g : Ghosts S} {n : Name} {a b d : S} → WorksOn g n a b → StepsOn g 1 b d → HasCommits 1 (tab g a) (tab g d)
 few_then works steps = let same = ap (λ (t : VolumeTable). t.sequence) works.stays.table in let one = steps.few in omega (arith, same, one)
+
+-- and the number is no lower
+pub lower_works : {S : Type 0} {g : Ghosts S} {n : Name} {a b : S} → LeavesNow g → g.failed a ≡ false → WorksOn g n a b → GoesNoLower g a b
+lower_works {S} {g} {n} {a} {b} leaves usable works = lower_step (stays_now leaves usable works.stays) (lower_same g a a refl)
 
 -- which leaves the volume its extents
 pub marked_extents : {S : Type 0} (g : Ghosts S) (b d e : S) (m : Memory) (u : List ℕ) (f : Filling) → IsFilled g b m u f → WorksOn g f.volume b d → tab g e ≡ marked (tab g d) (Vhd u)

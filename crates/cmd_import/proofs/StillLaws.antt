@@ -21,6 +21,7 @@ use Rattle.vhd_import.specs.declared.faults.ImportFault.TheVariants as fault
 use Rattle.sm_importing.specs.Disks.{Begin, IsSince}
 use Rattle.sm_importing.specs.Imports.{ImportsSince, LeavesStill}
 use Rattle.sm_importing.proofs.ImportLaws.{LeavesNow, so_far_first}
+use Rattle.sm_importing.proofs.LowerLaws.{lower_same}
 use Rattle.vhd_import.specs.Progress.{FaultCounts}
 use Rattle.cmd_import.specs.Importing.{EndCounts, EndFaultCounts, EndsWith, HasImported}
 use Rattle.cmd_import.specs.Ends.{UndoCounts, target_from}
@@ -38,6 +39,7 @@ module _ {S : Type 0} (g : Ghosts S) (u : List ℕ) (bytes : Option (List ℕ)) 
   ends_still same_logs told left = record {
     ends = disks (store_content g a);
     ends_with = same_ends (target_from g a m) u bytes (disks (store_content g a)) f;
+    still = λ d i. i;
     done = record {
       ready = λ ok. absurd (true≢false (sym ok));
       settled = λ ok. absurd (true≢false (sym ok));
@@ -53,6 +55,7 @@ module _ {S : Type 0} (g : Ghosts S) (u : List ℕ) (bytes : Option (List ℕ)) 
   ends_done k ok same_logs done = record {
     ends = disks (store_content g a);
     ends_with = same_ends (target_from g a m) u bytes (disks (store_content g a)) f;
+    still = λ d i. i;
     done = record {
       ready = λ ok. absurd (true≢false (sym ok));
       settled = λ ok. absurd (true≢false (sym ok));
@@ -85,6 +88,7 @@ since_new g a k w s m u b v store memory disk unbegun going = record {
   counts = let same = ap g.faults store in omega (arith, same);
   failed = λ over begun. absurd (true≢false (sym over ∙ going));
   few = λ whole begun. absurd (true≢false (sym begun ∙ unbegun));
+  no_lower = lower_same g a s store;
 }
 
 -- the disk's volume stands, by what was taken out of it

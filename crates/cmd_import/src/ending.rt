@@ -15,7 +15,7 @@ ghost use Rattle.vg_volumes.specs.Stored.{Counts};
 ghost use Rattle.vhd_filling.specs.Filled.{HasBlocksBelow};
 ghost use Rattle.vhd_import.specs.declared.faults.ImportFault.TheVariants.{Device};
 ghost use Rattle.sm_importing.specs.Disks.{Begin, IsFilled, IsSince};
-ghost use Rattle.sm_importing.specs.Imports.{ImportsSince, extents_of_volume};
+ghost use Rattle.sm_importing.specs.Imports.{GoesNoLower, ImportsSince, extents_of_volume};
 ghost use Rattle.cmd_import.specs.Ends.{EndsFrom, HasMadeIn, IsCut, UndoCounts, import_record};
 ghost use Rattle.cmd_import.specs.Importing.{HasImported, HasNewImage, whole_blocks};
 
@@ -75,6 +75,7 @@ fn complete_disk<S: Store>(
     ensures logs { memory.new.logs ≡ memory.old.logs }
     ensures counts { S.faults store.old ≤ S.faults store.new }
     ensures few { HasCommits 1 (table_alone (S.table store.old)) (table_alone (S.table store.new)) }
+    ensures no_lower { GoesNoLower S.Store store.old store.new }
     ensures extents { OnOk result (extents_of_volume (table_alone (S.table store.new)) (Vhd uuid.now) ≡ extents_of_volume (table_alone (S.table store.old)) (Vhd uuid.now)) }
     ensures device { IfErr result (λ fault. fault ≡ Device) }
     ensures size { IfOk result (λ size. size ≡ sector_bytes * whole_blocks (S.site store.old).geometry.block sectors) }
@@ -115,6 +116,7 @@ pub(crate) fn end_import<S: Store>(
     ensures logs { result.2.logs ≡ disk.memory.logs }
     ensures counts { S.faults disk.store ≤ S.faults result.1 }
     ensures few { HasCommits 1 (table_alone (S.table disk.store)) (table_alone (S.table result.1)) }
+    ensures no_lower { GoesNoLower S.Store disk.store result.1 }
     ensures extents { OnOk result.0 (extents_of_volume (table_alone (S.table result.1)) (Vhd uuid.now) ≡ extents_of_volume (table_alone (S.table disk.store)) (Vhd uuid.now)) }
     ensures device { IfErr result.0 (λ fault. fault ≡ Device) }
     ensures size { IfOk result.0 (λ size. size ≡ sector_bytes * whole_blocks (S.site disk.store).geometry.block sectors) }
@@ -141,6 +143,7 @@ pub(crate) fn undo_import<S: Store>(
     ensures answer { IfErr result.0 (UndoCounts S.Store (IsCut disk.begun disk.over) fault disk.store result.1) }
     ensures fails { OnOk result.0 ⊥ }
     ensures memory { result.2 ≡ disk.memory }
+    ensures no_lower { GoesNoLower S.Store disk.store result.1 }
     // Where no call of the store failed, the volume is gone.
     ensures restored { IfErr result.0 (λ answer. (answer ≡ Device → ⊥) → IsBetweenSteps S.Store result.1 result.2) }
     ensures ends { (o : Begin S) (bytes : Option (List ℕ)) → IsSince S.Store o disk.store disk.memory disk.disk disk.begun disk.over

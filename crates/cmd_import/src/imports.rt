@@ -5,7 +5,10 @@ ghost use Rattle.sm_disk.specs.Held.{Keeps};
 ghost use Rattle.vg_meta.specs.Roomy.{table_alone};
 ghost use Rattle.sm_ready.specs.Frames.{HasCommits};
 ghost use Rattle.sm_ready.specs.Framing.{IsBetweenSteps};
-ghost use Rattle.sm_ready.specs.Sessions.{IsAtEase, IsReadyStore};
+ghost use Rattle.sm_ready.specs.Sessions.{IsAtEase, IsReadyStore, KeepsAll};
+ghost use Rattle.sm_ready.specs.Stores.{StoreLeaves};
+ghost use Rattle.sm_ready.specs.Does.{store_shape};
+ghost use Rattle.sm_machine.specs.Tracking.{AreGoodLogs};
 ghost use Rattle.sm_run.specs.Runs.{IsSpent};
 ghost use Rattle.sm_base.specs.declared.names.Name.TheVariants.{Vhd};
 ghost use Rattle.sm_base.specs.declared.refusals.Refusal.{Refusal as RefusalOf};
@@ -59,6 +62,9 @@ pub fn import<S: Store, R: Source>(
     // Behind any fault but Device the new volume is gone: table and memory agree as before, and memory is what it was.
     ensures restored { IfErr result.0 (λ fault. (fault ≡ Device → ⊥) → IsBetweenSteps S.Store result.1 result.2 × (result.2 ≡ memory)) }
     ensures spent { OnOk result.0 (IsSpent (R.content source.new)) }
+    // The check of logs passes on whatever a stop leaves, where it did before and the logs in memory are those of disks, as they should be.
+    ensures kept { S.told → IsReadyStore S.Store store memory → ∥ AreGoodLogs (store_shape S.Store store memory) ∥₁ → KeepsAll (S.site store) (StoreLeaves S.Store store)
+        → KeepsAll (S.site store) (StoreLeaves S.Store result.1) }
     ensures done { S.told → IsReadyStore S.Store store memory → HasImported S.Store uuid.now (R.content source.old) memory result.2 store result.1 result.0 }
 {
     if let Some(refusal) = refuse_import(store.table(), &memory, uuid) {

@@ -9,6 +9,8 @@ pub mod BlockLaws
 pub mod FillLaws
 pub mod AnswerLaws
 pub mod PutLaws
+pub mod LogsStill
+pub mod LowerLaws
 pub mod SinceLaws
 pub mod WriteLaws
 pub mod FaultLaws

@@ -27,7 +27,7 @@ use Rattle.vhd_import.specs.declared.disks.PutFault.{PutFault}
 use Rattle.vhd_import.specs.declared.disks.PutFault.TheVariants as put
 use Rattle.sm_importing.specs.declared.faults.RoomFault.{RoomFault}
 use Rattle.sm_importing.specs.declared.faults.RoomFault.TheVariants as room
-use Rattle.sm_importing.specs.Imports.{ImportsSince, IsImporting, LeavesStill, MayImport, extents_of_volume, thin_in}
+use Rattle.sm_importing.specs.Imports.{GoesNoLower, ImportsSince, IsImporting, LeavesStill, MayImport, extents_of_volume, thin_in}
 
 -- ---- room
 
@@ -119,7 +119,8 @@ pub record Begin (S : Type 0) : Type 0 where
 
 -- Since the begin the same disk is imported, at the same site, and what is beside the store is kept. Nothing was done to the store before
 -- the volume was made; whatever a stop leaves since then shows the disks from before, also where the import is over. Where it is over and the
--- volume may be there, a call of the store failed. While it goes on, no more commits were made than its volume has extents.
+-- volume may be there, a call of the store failed. While it goes on, no more commits were made than its volume has extents. The sequence
+-- number is never lower.
 pub record IsSince {S : Type 0} (g : Ghosts S) (o : Begin S) (s : S) (m : Memory) (u : List ℕ) (begun over : Bool) : Type 0 where
   pub memory : m ≡ o.memory
   pub disk : u ≡ o.disk
@@ -131,3 +132,4 @@ pub record IsSince {S : Type 0} (g : Ghosts S) (o : Begin S) (s : S) (m : Memory
   pub counts : g.faults o.store ≤ g.faults s
   pub failed : over ≡ true → begun ≡ true → Rose (g.faults o.store) (g.faults s)
   pub few : over ≡ false → begun ≡ true → HasCommits (extents_of_volume (table_alone (g.table s)) (Vhd u)) (table_alone (g.table o.store)) (table_alone (g.table s))
+  pub no_lower : GoesNoLower g o.store s

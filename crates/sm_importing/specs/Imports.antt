@@ -1,6 +1,6 @@
 -- A disk that is imported: what is asked at its begin, what stands in table, memory and sectors until its end, and what a stop leaves of
 -- that (this project's own).
-use Rattle.std.specs.Prelude.{◌≡◌, ℕ, ◌+◌, ◌-◌, ◌≤◌, true, false, List, Some, IsSome, length}
+use Rattle.std.specs.Prelude.{◌≡◌, ◌⊎◌, ℕ, ◌+◌, ◌-◌, ◌≤◌, true, false, List, Some, IsSome, length}
 use Rattle.uuid.specs.Parts.{is_nil_bytes}
 use Rattle.sm_base.specs.Names.{is_base}
 use Rattle.sm_base.specs.Numbers.{thin}
@@ -23,7 +23,7 @@ use Rattle.sm_machine.specs.Shapes.{image_limit}
 use Rattle.sm_mgt.specs.Places.{place_for}
 use Rattle.sm_standing.specs.Standing.{disks}
 use Rattle.sm_ready.specs.Done.{HasDone, at_rest}
-use Rattle.sm_ready.specs.Frames.{HasCommits, HasTrueImages}
+use Rattle.sm_ready.specs.Frames.{HasCommits, HasTrueImages, IsNoLower}
 use Rattle.sm_ready.specs.Known.{Known, has_image, known}
 use Rattle.sm_ready.specs.Ready.{HasNoStray, IsReady}
 use Rattle.sm_ready.specs.Sessions.{HasAttachmentRoom, HasRows, HasTreeRoom, IsOrderlyStore}
@@ -93,6 +93,13 @@ StopsImporting {S} g u m old new = (a : S) → ImportsSince g u m a old → Leav
 abbrev pub EndsImporting : {S : Type 0} → Ghosts S → List ℕ → Memory → S → S → Type 0 → Type 0
 EndsImporting {S} g u m old new ok = (a : S) → ImportsSince g u m a old → g.told
     → HasDone (g.site a) (table_alone (g.table a)) (table_alone (g.table new)) (g.area a) (g.area new) (known m) (StoreLeaves g a) (StoreLeaves g new) ok (disks (store_content g a))
+
+-- ---- the sequence number
+
+-- the sequence number of a later store is no lower, and so is each that a stop leaves of it, but for what a stop might have left of the earlier one
+pub record GoesNoLower {S : Type 0} (g : Ghosts S) (a s : S) : Type 0 where
+  pub now : IsNoLower (table_alone (g.table a)) (table_alone (g.table s))
+  pub left : g.told → (t : VolumeTable) (image : ℕ → List ℕ) → StoreLeaves g s t image → StoreLeaves g a t image ⊎ IsNoLower (table_alone (g.table a)) t
 
 -- ---- the table
 

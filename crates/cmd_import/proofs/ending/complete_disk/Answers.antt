@@ -10,10 +10,11 @@ use Rattle.vhd_chain.specs.Trees.{with_row}
 use Rattle.sm_importing.specs.Endings.{CompletesImporting, IsSteadyAtRest, marked, row_of}
 use Rattle.sm_importing.specs.Imports.{IsImporting, extents_of_volume}
 use Rattle.sm_importing.proofs.FillLaws.{slots_room}
+use Rattle.sm_importing.proofs.LowerLaws.{lower_step}
 use Rattle.vhd_image.specs.Made.{IsDiskSize}
 use Rattle.vhd_filling.specs.Filled.{slots_taken}
 use Rattle.vhd_import.specs.declared.faults.ImportFault.TheVariants.{Device}
-use Rattle.cmd_import.proofs.EndLaws.{cut_ends, few_then, few_works, importing_sealed, made_ends, marked_extents, new_image, since_sealed, whole_are}
+use Rattle.cmd_import.proofs.EndLaws.{cut_ends, few_then, few_works, importing_sealed, lower_works, made_ends, marked_extents, new_image, since_sealed, whole_are}
 use Rattle.cmd_import.proofs.MadeLaws.{made_steady}
 use Rattle.cmd_import.proofs.SizeLaws.{blocks_are, whole_few, whole_proper}
 use Rattle.cmd_import.proofs.StillLaws.{ends_still}
@@ -117,3 +118,12 @@ returns-clause-extents g c =
     marked_extents g.S.Store c.args.store.now d c.complete.new.store c.args.memory.now c.args.uuid.now c.args.filling c.requires.filled c.finish.ensures.works
     (c.in-Ok-complete.ensures.table ∙ ap (λ (r : Record). marked (table_alone (g.S.Store.table d)) (Vhd r.uuid)) c.record_of.ensures.is)
     ∙ ap (λ t. extents_of_volume t (Vhd c.args.uuid.now)) c.finish.ensures.works.stays.table
+
+pub returns-in_default-clause-no_lower : goal.returns-in_default-clause-no_lower
+returns-in_default-clause-no_lower g c = lower_works g.met.S.Store.leaves_now c.requires.filled.importing.usable c.finish.ensures.works
+
+pub returns-in_default-complete-clause-no_lower : goal.returns-in_default-complete-clause-no_lower
+returns-in_default-complete-clause-no_lower g c = lower_step c.complete.ensures.step (lower_works g.met.S.Store.leaves_now c.requires.filled.importing.usable c.finish.ensures.works)
+
+pub returns-clause-no_lower : goal.returns-clause-no_lower
+returns-clause-no_lower g c = lower_step c.complete.ensures.step (lower_works g.met.S.Store.leaves_now c.requires.filled.importing.usable c.finish.ensures.works)

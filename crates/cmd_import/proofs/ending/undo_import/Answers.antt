@@ -2,6 +2,7 @@ use Rattle.std.proofs.Common.{◌≡◌, Ok, refl, sym, ap, ◌∙◌, subst, su
 use Rattle.sm_ready.specs.Framing.{IsBetweenSteps}
 use Rattle.sm_ready.specs.declared.memory.Memory.{Memory}
 use Rattle.sm_importing.specs.Imports.{IsImporting, LeavesStill}
+use Rattle.sm_importing.proofs.LowerLaws.{lower_same, lower_step}
 use Rattle.vhd_import.specs.declared.faults.ImportFault.TheVariants.{Device}
 use Rattle.cmd_import.proofs.StillLaws.{ends_done, ends_still, since_at, still_unbegun}
 use Rattle.cmd_import.proofs.ending.undo_import.Goals as goal
@@ -54,3 +55,15 @@ returns-clause-ends g c = λ o bytes since told ready.
     let going = sym c.is_over-over.ensures ∙ c.if-over.false in
     let since_now = since_at g.S.Store o d.store p.result.0 d.memory p.result.1 c.args.uuid.now d.disk d.begun d.over p.ensures.store p.ensures.memory c.requires.named begun going since told ready in
     ends_done g.S.Store o.disk bytes o.memory p.result.1 o.store c.give_up.new.store Device p.result.1 (c.give_up.result ≡ Ok tt) refl (c.give_up.ensures.ends o.store since_now told)
+
+pub returns-then-not-begun-clause-no_lower : goal.returns-then-not-begun-clause-no_lower
+returns-then-not-begun-clause-no_lower g c = lower_same g.S.Store c.args.disk.store c.into_parts-store.result.0 c.into_parts-store.ensures.store
+
+pub returns-then-over-clause-no_lower : goal.returns-then-over-clause-no_lower
+returns-then-over-clause-no_lower g c = lower_same g.S.Store c.args.disk.store c.into_parts-store.result.0 c.into_parts-store.ensures.store
+
+pub returns-in-Ok-clause-no_lower : goal.returns-in-Ok-clause-no_lower
+returns-in-Ok-clause-no_lower g c = lower_step c.give_up.ensures.step (lower_same g.S.Store c.args.disk.store c.into_parts-store.result.0 c.into_parts-store.ensures.store)
+
+pub returns-clause-no_lower : goal.returns-clause-no_lower
+returns-clause-no_lower g c = lower_step c.give_up.ensures.step (lower_same g.S.Store c.args.disk.store c.into_parts-store.result.0 c.into_parts-store.ensures.store)

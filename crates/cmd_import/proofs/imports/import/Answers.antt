@@ -6,12 +6,14 @@ use Rattle.sm_ready.specs.Framing.{IsBetweenSteps}
 use Rattle.sm_ready.specs.Known.{known, shape_in}
 use Rattle.sm_ready.specs.declared.memory.Memory.{Memory}
 use Rattle.sm_importing.specs.Disks.{target_of}
+use Rattle.sm_importing.proofs.LowerLaws.{lower_then}
 use Rattle.vhd_import.specs.declared.faults.ImportFault.TheVariants.{NoMemory, Refused}
 use Rattle.cmd_import.specs.Ends.{IsCut}
 use Rattle.cmd_import.specs.Importing.{HasNewImage, shape_of}
 use Rattle.cmd_import.proofs.AnswerLaws.{answers_fault, answers_made}
 use Rattle.cmd_import.proofs.BlockLaws.{blocks_below}
 use Rattle.cmd_import.proofs.EndLaws.{few_ends, made_in}
+use Rattle.cmd_import.proofs.ImportedLogs.{kept_imported}
 use Rattle.cmd_import.proofs.EntryLaws.{entry_none, may_import, target_is}
 use Rattle.cmd_import.proofs.StillLaws.{begin_of, end_counts, ends_still, since_new, untouched, with_memory}
 use Rattle.cmd_import.proofs.imports.import.Goals as goal
@@ -164,3 +166,26 @@ returns-in-Err-clause-logs g c =
     let d = c.new-disk.ensures in
     let since = c.read_file.ensures.since (begin_of c.args.store c.args.memory c.args.uuid.now) (since_new g.S.Store c.args.store c.args.memory c.args.uuid.now _ _ _ _ _ d.store d.memory d.disk d.begun.0 d.begun.1) in
     ap (λ (m : Memory). m.logs) (c.undo_import.ensures.memory ∙ since.memory)
+
+pub returns-in-Ok-read_file-clause-kept : goal.returns-in-Ok-read_file-clause-kept
+returns-in-Ok-read_file-clause-kept g c = λ told ready good keeps.
+    let s = g.S.Store.site c.args.store in
+    let t = table_alone (g.S.Store.table c.args.store) in
+    let r = c.requires.session in
+    let d = c.new-disk.ensures in
+    let o = begin_of c.args.store c.args.memory c.args.uuid.now in
+    let since = c.read_file.ensures.since o (since_new g.S.Store c.args.store c.args.memory c.args.uuid.now _ _ _ _ _ d.store d.memory d.disk d.begun.0 d.begun.1) in
+    let was = ap₂ target_of d.sizes d.room ∙ target_is s t (known c.args.memory) r.orderly r.tidy in
+    let n = c.read_file.new.disk in
+    let did = c.end_import.ensures.ends o (g.R.Source.content c.args.source.now) since
+    (made_in g.S.Store n.filling n.store (g.R.Source.content c.args.source.now) c.in-Ok-read_file.sectors c.args.store c.args.memory _ _ n.over was (c.read_file.ensures.target ∙ was) c.in-Ok-read_file.ensures.answered.1)
+    told ready in
+    kept_imported r.orderly ready good did (c.end_import.ensures.logs ∙ ap (λ (m : Memory). m.logs) since.memory) (lower_then since.no_lower c.end_import.ensures.no_lower) told keeps
+
+pub returns-in-Err-clause-kept : goal.returns-in-Err-clause-kept
+returns-in-Err-clause-kept g c = λ told ready good keeps.
+    let d = c.new-disk.ensures in
+    let o = begin_of c.args.store c.args.memory c.args.uuid.now in
+    let since = c.read_file.ensures.since o (since_new g.S.Store c.args.store c.args.memory c.args.uuid.now _ _ _ _ _ d.store d.memory d.disk d.begun.0 d.begun.1) in
+    let did = c.undo_import.ensures.ends o (g.R.Source.content c.args.source.now) since told ready in
+    kept_imported c.requires.session.orderly ready good did (ap (λ (m : Memory). m.logs) (c.undo_import.ensures.memory ∙ since.memory)) (lower_then since.no_lower c.undo_import.ensures.no_lower) told keeps

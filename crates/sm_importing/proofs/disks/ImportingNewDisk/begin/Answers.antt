@@ -43,14 +43,14 @@ returns-in-Ok-clause-since g c = λ o h.
     let whole = c.if-self.false in
     let e = c.in-Ok.ensures in
     let few = begun_few (s.to_begin whole c.requires.new) s.sizes (s.sizes_are whole) e.step.site e.importing e.table e.volumes e.step.few in
-    made_since c.begin-made.new.store e.step.site e.step.beside e.step.counts whole c.requires.new few e.since h
+    made_since c.begin-made.new.store e.step whole c.requires.new few e.since h
 
 pub returns-then-is_device-clause-since : goal.returns-then-is_device-clause-since
 returns-then-is_device-clause-since g c = λ o h.
     let e = c.begin-made.ensures in
     let device = put_device c.put_fault-why.result (sym c.is_device.ensures ∙ c.if-is_device.true) in
     let failed = e.cause.device (device_is c.begin-made.result c.in-Err.fault c.put_fault-why.result c.in-Err.is c.put_fault-why.ensures (ap Err device)) in
-    cut_since c.begin-made.new.store e.step.site e.step.beside e.step.counts c.if-self.false c.requires.new failed e.stops h
+    cut_since c.begin-made.new.store e.step c.if-self.false c.requires.new failed e.stops h
 
 pub invariant_of-self-else-is_device : goal.invariant_of-self-else-is_device
 invariant_of-self-else-is_device g c =
@@ -76,4 +76,4 @@ returns-else-is_device-clause-room g c =
 pub returns-else-is_device-clause-since : goal.returns-else-is_device-clause-since
 returns-else-is_device-clause-since g c = λ o h.
     let e = c.begin-made.ensures in
-    unmade_since c.begin-made.new.store e.step.site e.step.beside e.step.counts c.if-self.false c.requires.new e.stops h
+    unmade_since c.begin-made.new.store e.step c.if-self.false c.requires.new e.stops h

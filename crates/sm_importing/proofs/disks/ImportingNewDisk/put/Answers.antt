@@ -13,18 +13,18 @@ returns-in-Ok-clause-holds g c = λ puts h. (h.0, c.in-Ok.ensures.holds (target_
 pub returns-in-Ok-clause-since : goal.returns-in-Ok-clause-since
 returns-in-Ok-clause-since g c = λ o h.
     let e = c.put_sector-done.ensures in
-    put_since c.put_sector-done.new.store e.step.site e.step.beside e.step.counts c.if-self.false c.requires.begun (e.grows (ok_not _ _ _ c.in-Ok.is)) (e.since (ok_not _ _ _ c.in-Ok.is)) h
+    put_since c.put_sector-done.new.store e.step c.if-self.false c.requires.begun (e.grows (ok_not _ _ _ c.in-Ok.is)) (e.since (ok_not _ _ _ c.in-Ok.is)) h
 
 pub returns-then-is_device-clause-since : goal.returns-then-is_device-clause-since
 returns-then-is_device-clause-since g c = λ o h.
     let e = c.put_sector-done.ensures in
-    stopped_since c.put_sector-done.new.store e.step.site e.step.beside e.step.counts c.if-self.false c.requires.begun (e.device (c.in-Err.is ∙ ap Err (put_device c.in-Err.fault (sym c.is_device.ensures ∙ c.if-is_device.true)))) e.stops h
+    stopped_since c.put_sector-done.new.store e.step c.if-self.false c.requires.begun (e.device (c.in-Err.is ∙ ap Err (put_device c.in-Err.fault (sym c.is_device.ensures ∙ c.if-is_device.true)))) e.stops h
 
 pub returns-else-is_device-clause-since : goal.returns-else-is_device-clause-since
 returns-else-is_device-clause-since g c = λ o h.
     let e = c.put_sector-done.ensures in
     let calm = not_device c.put_sector-done.result c.in-Err.fault c.in-Err.is (sym c.is_device.ensures ∙ c.if-is_device.false) in
-    put_since c.put_sector-done.new.store e.step.site e.step.beside e.step.counts c.if-self.false c.requires.begun (e.grows calm) (e.since calm) h
+    put_since c.put_sector-done.new.store e.step c.if-self.false c.requires.begun (e.grows calm) (e.since calm) h
 
 pub returns-else-is_device-clause-room : goal.returns-else-is_device-clause-room
 returns-else-is_device-clause-room g c = λ puts h.
