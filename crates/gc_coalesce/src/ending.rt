@@ -9,7 +9,7 @@ ghost use Rattle.vg_meta.specs.declared.changes.Change.TheVariants.{Remove};
 ghost use Rattle.sm_ready.specs.Known.{entry_of};
 ghost use Rattle.sm_disk.specs.Held.{Keeps};
 ghost use Rattle.vg_meta.specs.Roomy.{table_alone};
-ghost use Rattle.vg_volumes.specs.Stored.{Counts};
+ghost use Rattle.vg_volumes.specs.Stored.{Counts, IsEitherOf, Leaves, stored};
 ghost use Rattle.sm_machine.specs.Shapes.{image_uuid};
 ghost use Rattle.sm_machine.specs.WellFormed.{is_image_name};
 ghost use Rattle.sm_base.specs.declared.operations.Plan.TheVariants as plan;
@@ -133,6 +133,7 @@ pub fn finish<S: Store>(store: &mut S, memory: &mut Memory) -> Result<(), Failed
     ensures true_still { OnOk result (HasTrueImages S.Store store.new memory.new) }
     ensures shape { OnOk result (ShapesAs S.Store command.Gc store.old memory.old store.new memory.new) }
     ensures done { S.told → IsReadyStore S.Store store.old memory.old → StoreDoes S.Store command.Gc store.old memory.old store.new memory.new (result ≡ Ok tt) }
+    ensures left { (e : NameModel) → entry_of memory.old.operation ≡ e ∷ [] → Leaves S.Store store.new (IsEitherOf (stored S.Store store.old) (Remove e)) }
 {
     let Op::Relink { child, parent } = memory.operation.told() else {
         unreachable!()

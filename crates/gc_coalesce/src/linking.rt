@@ -32,6 +32,7 @@ pub fn relink_one<S: Store>(store: &mut S, memory: &mut Memory, child: &Name) ->
     ensures step { StepsOn S.Store 0 store.old store.new }
     ensures cause { Counts S.Store result store.old store.new }
     ensures usable_still { OnOk result (S.failed store.new ≡ false) }
+    ensures unfailed { S.failed store.new ≡ false }
     ensures table { table_alone (S.table store.new) ≡ table_alone (S.table store.old) }
     ensures images { length memory.new.tree.rows ≡ length memory.old.tree.rows }
     ensures spare { memory.new.tree.spare ≡ memory.old.tree.spare }

@@ -48,7 +48,7 @@ use Rattle.sm_ready.proofs.OwnLaws.{step_shape}
 use Rattle.sm_ready.proofs.Orders.{In-tree_row, named_row}
 use Rattle.sm_ready.proofs.RestLaws.{agrees_keeps, keeps_rest, steady_keeps}
 use Rattle.sm_ready.proofs.RowLaws.{found_in, image_named}
-use Rattle.gc_abandon.proofs.EntryLaws.{fresh_image}
+use Rattle.gc_abandon.proofs.EntryLaws.{fresh_no_entry}
 use Rattle.gc_leaf.specs.Swapping.{CountsAs, IsUncounted, folding_of, swapped_rows}
 use Rattle.gc_leaf.proofs.SwapMemory.{folded, folded_name, images_alike, images_then, in_then, known_as, known_is, known_then, known_with, name_or, parent_found, parent_row, rows_then, shape_as, shape_with, shown_still}
 use Rattle.gc_leaf.proofs.SwapPair.{leaf_is, parent_is, parent_vol, u, v}
@@ -122,7 +122,7 @@ module _ {s : Site} {t : VolumeTable} {m : Known} {l p : Name} {cursor : ℕ} (h
         where
           of : (b : Bool) → e.fresh ≡ b → e.fresh ≡ false
           of false is = is
-          of true is = absurd (true≢false (sym entry ∙ image-no_entry e.name (fresh_image e w is)))
+          of true is = absurd (true≢false (sym entry ∙ fresh_no_entry e w is))
 
       by : (r.name ≡ Vhd (u h)) ⊎ (r.name ≢ Vhd (u h)) → (r.name ≡ Vhd (v h)) ⊎ (r.name ≢ Vhd (v h)) → (r.name ≡ Old (u h)) ⊎ (r.name ≢ Old (u h)) → (b : Bool) → is_entry r.name ≡ b → r.fresh ≡ false
       by (inl is) a b c e = ap (λ (x : Row). x.fresh) (same_Some r (shown_row h) (sym there ∙ ap (rows last) is ∙ (stage_5 h).leaf_row)) ∙ (parent_vol h).filled
@@ -292,7 +292,7 @@ module _ {s : Site} {t : VolumeTable} {m : Known} {l p : Name} {cursor : ℕ} (h
           (agrees_keeps (records_held s t old) (volume s.geometry.extent (extents_of (rows t Mgt)) end) m.places
           (Keeps-volume s.geometry.extent (extents_of (rows t Mgt)) (keeps_rest old)) ready.records);
       recorded = volume_rested s last (reads old) Mgt;
-      logs = (holds_commit (holds_ready s t old m h.orderly ready) last (λ d. logs_stay h (stage_5 h) (Cbt d) refl) (λ d. volume_rested s last (reads old) (Cbt d))).logs;
+      logs = (holds_commit (holds_ready s t old m h.orderly ready) last (stage_5 h).table (λ d. logs_stay h (stage_5 h) (Cbt d) refl) (λ d. volume_rested s last (reads old) (Cbt d))).logs;
       logged = λ d. volume_rested s last (reads old) (Cbt d);
     }
 

@@ -311,7 +311,7 @@ module _ {s : Site} {t : VolumeTable} {m : Known} {l p : Name} {cursor : ℕ} (h
 
     later_logged : {y : VolumeTable} {own base gone : Option Row} {es : List Name} → IsSwapTable s.count t leaf parent y own base gone es → (image : ℕ → List ℕ) → IsLeft s (at_rest (reads old)) image
         → IsLogged (content_in s y image) m.logs
-    later_logged {y = y} z = logged_left (holds_commit holds y (λ w. logs_stay h z (Cbt w) refl) (λ w. volume_rested s y (reads old) (Cbt w))) z.table
+    later_logged {y = y} z = logged_left (holds_commit holds y z.table (λ w. logs_stay h z (Cbt w) refl) (λ w. volume_rested s y (reads old) (Cbt w))) z.table
 
     -- whatever a stop leaves in front of the last commit is fine
     pub front_fine : (before : Leaving) → MayShow s before (disks a) → ((image : ℕ → List ℕ) → IsBefore (area_size s) t old t image → before t image)

@@ -1,8 +1,10 @@
-use Rattle.std.proofs.Common.{inl, inr, refl, sym, subst, ap, ◌∙◌}
+use Rattle.std.proofs.Common.{ℕ, List, inl, inr, refl, sym, subst, ap, ◌∙◌}
 use Rattle.std.proofs.lemmas.Option.{same_Some}
 use Rattle.vg_meta.specs.Changes.{applied}
 use Rattle.vg_meta.specs.Roomy.{table_alone}
+use Rattle.vg_meta.specs.Tables.{VolumeTable}
 use Rattle.vg_meta.specs.declared.changes.Change.TheVariants.{Remove}
+use Rattle.vg_volumes.specs.Stored.{IsEitherOf, stored}
 use Rattle.sm_standing.specs.Entries.{head}
 use Rattle.sm_machine.specs.Operations.{told}
 use Rattle.sm_machine.proofs.Told.{told_relink}
@@ -91,6 +93,16 @@ returns-clause-done g c = λ told ready.
     gc_end g.S.Store c.args.store.now c.args.memory.now h c.in_ok-drop_entry.ensures.commits
     (is_told g.S.Store c.args.store.now c.args.memory.now r.orderly r.usable told ready (g.met.S.Store.leaves_now c.args.store.now told r.usable)) (c.drop_entry.ensures.crash told)
     (record c.args.memory.now { operation = c.set.new.self }) (ap (λ o. record c.args.memory.now { operation = o }) c.set.ensures) _
+
+pub returns-in_err-drop_entry-clause-left : goal.returns-in_err-drop_entry-clause-left
+returns-in_err-drop_entry-clause-left g c = λ e is told.
+    subst (λ n. (t : VolumeTable) (image : ℕ → List ℕ) → g.S.Store.leaves c.drop_entry.new.store t image → IsEitherOf (stored g.S.Store c.args.store.now) (Remove n) t image)
+    (c.link_entry.ensures ∙ same_Some _ _ (ap head (sym (ap entry_of (told_relink _ _ _ (sym c.told.ensures ∙ c.in-Relink.is))) ∙ is))) (c.drop_entry.ensures.crash told)
+
+pub returns-clause-left : goal.returns-clause-left
+returns-clause-left g c = λ e is told.
+    subst (λ n. (t : VolumeTable) (image : ℕ → List ℕ) → g.S.Store.leaves c.drop_entry.new.store t image → IsEitherOf (stored g.S.Store c.args.store.now) (Remove n) t image)
+    (c.link_entry.ensures ∙ same_Some _ _ (ap head (sym (ap entry_of (told_relink _ _ _ (sym c.told.ensures ∙ c.in-Relink.is))) ∙ is))) (c.drop_entry.ensures.crash told)
 
 pub returns-in_err-drop_entry-clause-step : goal.returns-in_err-drop_entry-clause-step
 returns-in_err-drop_entry-clause-step g c = failed_steps (Remove c.link_entry.result) c.in_err-drop_entry.ensures.fails c.drop_entry.ensures.crash
