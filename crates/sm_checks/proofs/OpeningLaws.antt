@@ -32,7 +32,7 @@ use Rattle.sm_standing.proofs.OutlineLaws.{reading_within}
 use Rattle.common_laws.proofs.Lists.{none_first, find_none, In-numbers}
 use Rattle.sm_ready.specs.Stores.{content_in, content_now}
 use Rattle.sm_checks.specs.Faults.{HasTable, HasPlaces, PassImages, table_faults}
-use Rattle.sm_checks.specs.Openable.{IsOpenable, IsOpeningStopped, IsStoppedBy}
+use Rattle.sm_checks.specs.Openable.{IsOpenable, IsCheckStopped, IsStoppedBy}
 use Rattle.sm_standing.proofs.FaultLaws.{named_none, none_given}
 use Rattle.sm_standing.specs.Entries.{folding, making, second}
 use Rattle.sm_checks.proofs.CheckLaws.{only}
@@ -196,7 +196,7 @@ all_say {s} {t} area places o c same agrees none says images =
 
 -- why the images were not read
 pub not_read : (s : Site) (t : VolumeTable) (told : Type 0) (area : Held) (before now : ℕ) (e : OpenFault) → TablesSay s t None
-    → IsStoppedBy told (invalid_fault (outline (content_now s t area))) before now e → IsOpeningStopped told (content_now s t area) before now e
+    → IsStoppedBy told (invalid_fault (outline (content_now s t area))) before now e → IsCheckStopped told (content_now s t area) before now e
 not_read s t told area before now (fault.Damaged place) none is = λ known.
     let x = outline (content_now s t area) in whole_valid x place (none x (has_table s t (reads area))) (is known)
 not_read s t told area before now fault.Device none is = is
@@ -216,12 +216,12 @@ module _ {S : Type 0} {g : Ghosts S} {a b : S} (only : OnlyReads g a b) (told : 
 pub stopped_by : {s : Site} {t : VolumeTable} (told : Type 0) (area : Held) (before mid now : ℕ) (e : OpenFault) {First : ℕ → Type 0} → IsOpenable s t → TablesSay s t None → (told → PassImages (outline (content_now s t area))) → before ≤ mid
     → (told → (k : ℕ) → First k → IsFirstDamaged (records_held s t area) k)
     → (e ≡ fault.NoMemory) ⊎ ((e ≡ fault.Device) × Rose mid now) ⊎ ((k : ℕ) × (e ≡ fault.Damaged (at.Record k)) × (told → First k))
-    → IsOpeningStopped told (content_now s t area) before now e
-stopped_by {s} {t} told area before mid now e c none images later to_first (inl is) = subst (IsOpeningStopped told (content_now s t area) before now) (sym is) tt
-stopped_by {s} {t} told area before mid now e c none images later to_first (inr (inl (is, rose))) = subst (IsOpeningStopped told (content_now s t area) before now) (sym is) (omega (arith, rose, later))
+    → IsCheckStopped told (content_now s t area) before now e
+stopped_by {s} {t} told area before mid now e c none images later to_first (inl is) = subst (IsCheckStopped told (content_now s t area) before now) (sym is) tt
+stopped_by {s} {t} told area before mid now e c none images later to_first (inr (inl (is, rose))) = subst (IsCheckStopped told (content_now s t area) before now) (sym is) (omega (arith, rose, later))
 stopped_by {s} {t} told area before mid now e c none images later to_first (inr (inr (k, is, first))) =
     let x = outline (content_now s t area) in
-    subst (IsOpeningStopped told (content_now s t area) before now) (sym is)
+    subst (IsCheckStopped told (content_now s t area) before now) (sym is)
     (λ known. whole_records x (at.Record k) (none x (has_table s t (reads area))) (images known) (records_wrong area k c (to_first known k (first known))))
 
 pub if_err : {T E : Type 0} (P : E → Type 0) (r : Result T E) (e : E) → r ≡ Err e → P e → IfErr r P

@@ -97,7 +97,7 @@ image_named _ known image = absurd (true≢false (sym known))
 
 pub some_extents : (r : Row) → suits r ≡ true → is_image r.name ≡ true → 0 < length r.extents
 some_extents r right image =
-    ltb-true 0 (length r.extents) (sym (ap (λ b. cond b (nat_lt 0 (length r.extents)) (not (is_log r.name) && (not r.hidden && (not r.fresh && (not (is_entry r.name) || (length r.extents == 0)))))) image)
+    ltb-true 0 (length r.extents) (sym (ap (λ b. cond b (nat_lt 0 (length r.extents)) (cond (is_log r.name) (not r.hidden && nat_lt 0 (length r.extents)) (not r.hidden && (not r.fresh && (not (is_entry r.name) || (length r.extents == 0)))))) image)
     ∙ right)
 
 abbrev alone : RoomyRow → Row

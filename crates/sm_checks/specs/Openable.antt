@@ -42,6 +42,6 @@ IsStoppedBy told first before now fault.NoMemory = Unit {0}
 IsStoppedBy told first before now fault.NotARepository = ⊥
 IsStoppedBy told first before now (fault.Unsupported version) = ⊥
 
--- why an opening stopped: the first place that is damaged, where the content is told; a fault of the device; memory
-abbrev pub IsOpeningStopped : Type 0 → Content → ℕ → ℕ → OpenFault → Type 0
-IsOpeningStopped told c before now e = IsStoppedBy told (first_fault c) before now e
+-- why the checks in front of that of the logs stopped: the first place that is damaged, where the content is told; a fault of the device; memory
+abbrev pub IsCheckStopped : Type 0 → Content → ℕ → ℕ → OpenFault → Type 0
+IsCheckStopped told c before now e = IsStoppedBy told (first_fault c) before now e

@@ -4,8 +4,8 @@
 //! the disks' records, and writes nothing. Sizes are in sectors of 512 bytes unless a line says extents.
 //!
 //! **The model** (`specs/`). `Faults` says what each check looks at, `Loaded` has the images as they are read off their volumes, an image
-//! that is being enlarged in the extents that it had, `Openable` what the checks by the table leave known of it and why an opening
-//! stops, and `Links` what the checks leave known of a link. Which place is the first is `sm_standing`'s (its `Checks`).
+//! that is being enlarged in the extents that it had, `Openable` what the checks by the table leave known of it and why these checks
+//! stop, and `Links` what the checks leave known of a link. Which place is the first is `sm_standing`'s (its `Checks`).
 //!
 //! **What it promises.** The checks come in a fixed order, and the first that fails gives the place: by the table ([`table_fault`]), by the
 //! images as they are read ([`load`]), by the trees that they make ([`tree_fault`]), by the links of forks, copies and leaves
