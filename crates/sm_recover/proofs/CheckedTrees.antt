@@ -1,5 +1,5 @@
 -- What the checks say of the images as they are read, and of the places of the records.
-use Rattle.std.proofs.Common.{suc, ◌≡◌, ◌⊎◌, inl, inr, ℕ, ◌*◌, ◌≤◌, true, false, not, ◌&&◌, List, length, map, filter, Option, Some, None, is_some, refl, sym, ap, ◌∙◌, subst, arith}
+use Rattle.std.proofs.Common.{suc, ◌≡◌, ◌⊎◌, inl, inr, ℕ, ◌*◌, ◌≤◌, true, false, not, ◌&&◌, List, [], length, map, filter, Option, Some, None, is_some, refl, sym, ap, ◌∙◌, subst, arith}
 use Rattle.std.proofs.lemmas.Bool.{true≢false}
 use Rattle.std.proofs.lemmas.List.Sums.{length-filter}
 use Rattle.std.proofs.lemmas.Option.{none-some, get_or_from_slice_get}
@@ -75,7 +75,7 @@ module _ {S : Type 0} (g : Ghosts S) (store : S) (xs : List TreeRow) (places : L
 
   module _ (long : length places ≡ place_count) (pass : (x : Outline) → HasTable s.geometry was x → HasLinks xs x → HasPlaces places x → PassesButLeaf x) where
     abbrev pub seen : Outline
-    seen = outline_in s was (begun_with xs places 0)
+    seen = outline_in s was (begun_with xs places [] 0)
 
     has : HasPlaces places seen
     unfolding outline_in

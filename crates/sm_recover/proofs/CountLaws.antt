@@ -10,14 +10,14 @@ use Rattle.sm_base.specs.Names.{name_cmp}
 use Rattle.sm_base.specs.declared.names.Name.{Name}
 use Rattle.sm_base.specs.declared.names.Name.TheVariants.{Vhd, Raw, Old}
 use Rattle.vg_meta.specs.Changes.{Permits, applied, cut_to, put, put_some, renamed, tagged, with_row, without}
-use Rattle.vg_meta.specs.Tables.{IsTable, IsVolume, Row, VolumeTable, name_eq, names_of, row_of}
+use Rattle.vg_meta.specs.Tables.{IsTable, Row, VolumeTable, name_eq, names_of, row_of}
 use Rattle.vg_meta.specs.Text.{text}
 use Rattle.vg_meta.specs.declared.changes.Change.{Change}
 use Rattle.vg_meta.specs.declared.changes.Change.TheVariants.{Create, Remove, Rename, Grow, Cut, Mark}
 use Rattle.vg_meta.proofs.ChangeLaws.{IsTable-applied, tagged_name}
-use Rattle.vg_meta.proofs.LogLaws.{volume_no_log}
 use Rattle.vg_meta.proofs.RowLaws.{row_of-name}
 use Rattle.vg_volumes.specs.Sites.{text_limit}
+use Rattle.sm_logs.specs.Held.{log_limit}
 use Rattle.sm_machine.specs.Shapes.{image_limit}
 use Rattle.sm_standing.specs.Checks.{images}
 use Rattle.sm_standing.specs.Opened.{applied_all}
@@ -115,10 +115,11 @@ module _ (test : Row → Bool) where
 
 -- ---- the text fits
 
--- a table of few images and entries
+-- a table of few images, logs and entries
 pub record IsSmall (count : ℕ) (t : VolumeTable) : Type 0 where
   pub table : IsTable count t
   pub few_images : length (images t) ≤ image_limit
+  pub few_logs : length (table_logs t) ≤ log_limit
   pub few_entries : length (filter (λ r. is_entry r.name) t.volumes) ≤ 4
 
 pub names_counted : (rs : List Row) → length (filter is_entry (names_of rs)) ≡ length (filter (λ r. is_entry r.name) rs)
@@ -130,17 +131,9 @@ names_counted (r ∷ rs) = by (is_entry r.name) (names_counted rs)
     by true rest = ap suc rest
     by false rest = rest
 
--- no volume is a log
-no_log_rows : (rs : List Row) → AllByRecursion IsVolume rs → filter (λ r. is_log r.name) rs ≡ []
-no_log_rows [] each = refl
-no_log_rows (r ∷ rs) each = ap (λ b. cond b (r ∷ filter (λ q. is_log q.name) rs) (filter (λ q. is_log q.name) rs)) (volume_no_log r each.0) ∙ no_log_rows rs each.1
-
-pub no_logs : {count : ℕ} {t : VolumeTable} → IsTable count t → length (table_logs t) ≡ 0
-no_logs {count} {t} table = ap (λ (rs : List Row). length rs) (no_log_rows t.volumes table.volumes.each)
-
 pub small_fits : {count : ℕ} {t : VolumeTable} → count ≤ extent_limit → IsSmall count t → length (text t) ≤ text_limit count
 small_fits {count} {t} extents small =
-    fits_entries count t small.table extents small.few_images (omega (arith, no_logs small.table)) (omega (arith, names_counted t.volumes, small.few_entries))
+    fits_entries count t small.table extents small.few_images small.few_logs (omega (arith, names_counted t.volumes, small.few_entries))
 
 image_no_entry : (n : Name) → is_image n ≡ true → is_entry n ≡ false
 image_no_entry n image = not_both n image
@@ -159,6 +152,23 @@ images_unseen (Remove n) lean = tt
 images_unseen (Cut n keep) lean = λ r. refl
 images_unseen (Mark n tag on) lean = λ r. ap is_image (tagged_name tag on r)
 
+pub image_no_log : (n : Name) → is_image n ≡ true → is_log n ≡ false
+image_no_log n image = not_both n image
+  where
+    not_both : (n : Name) → is_image n ≡ true → is_log n ≡ false
+    not_both (Vhd u) h = refl
+    not_both (Raw u) h = refl
+    not_both (Old u) h = refl
+    not_both _ h = absurd (true≢false (sym h))
+
+logs_unseen : (c : Change) → IsLean c → IsUnseenBy (λ r. is_log r.name) c
+logs_unseen (Rename from to) lean = λ r named. image_no_log to lean.1 ∙ sym (ap is_log named ∙ image_no_log from lean.0)
+logs_unseen (Create name fresh es) lean = tt
+logs_unseen (Grow name es) lean = tt
+logs_unseen (Remove n) lean = tt
+logs_unseen (Cut n keep) lean = λ r. refl
+logs_unseen (Mark n tag on) lean = λ r. ap is_log (tagged_name tag on r)
+
 entries_unseen : (c : Change) → IsLean c → IsUnseenBy (λ r. is_entry r.name) c
 entries_unseen (Rename from to) lean = λ r named. image_no_entry to lean.1 ∙ sym (ap is_entry named ∙ image_no_entry from lean.0)
 entries_unseen (Create name fresh es) lean = tt
@@ -171,10 +181,15 @@ pub small_next : {count : ℕ} {t : VolumeTable} (c : Change) → IsSmall count 
 small_next {count} {t} c small allowed lean = record {
   table = IsTable-applied count t c small.table allowed;
   few_images = omega (arith, no_more (λ r. is_image r.name) count t c allowed lean (images_unseen c lean), small.few_images);
+  few_logs = omega (arith, no_more (λ r. is_log r.name) count t c allowed lean (logs_unseen c lean), small.few_logs);
   few_entries = omega (arith, no_more (λ r. is_entry r.name) count t c allowed lean (entries_unseen c lean), small.few_entries);
 }
 
 -- ---- one after the other
+
+pub small_all : {count : ℕ} (t : VolumeTable) (cs : List Change) → IsSmall count t → AllMay count t cs → AllByRecursion IsLean cs → IsSmall count (applied_all t cs)
+small_all t [] small may lean = small
+small_all t (c ∷ cs) small may lean = small_all (applied t c) cs (small_next c small may.0 lean.0) may.2 lean.1
 
 pub may_join : (count : ℕ) (t : VolumeTable) (xs ys : List Change) → AllMay count t xs → AllMay count (applied_all t xs) ys → AllMay count t (xs ++ ys)
 may_join count t [] ys may rest = rest

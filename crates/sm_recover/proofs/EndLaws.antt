@@ -31,7 +31,7 @@ use Rattle.sm_ready.specs.Cleaned.{HasFewRemovals}
 use Rattle.sm_ready.specs.Runs.{AllMay}
 use Rattle.sm_ready.proofs.RowLaws.{found_in, rising_rows, row_cmp}
 use Rattle.sm_checks.specs.Openable.{IsOpenable}
-use Rattle.sm_recover.specs.Repairs.{IsEndable, IsUndoable}
+use Rattle.sm_recover.specs.Repairs.{HasFewLogs, IsEndable, IsUndoable}
 use Rattle.sm_recover.specs.Steps.{IsPartOf, ends_copy, first_changes, uncopied}
 use Rattle.sm_recover.proofs.CountLaws.{IsLean, IsSmall, names_counted, small_fits, small_next}
 use Rattle.sm_checks.proofs.EntryLaws.{base_found, undone_applied}
@@ -249,13 +249,15 @@ pub endable_small : {s : Site} {t : VolumeTable} → IsEndable s t → IsSmall s
 endable_small {s} {t} c = record {
   table = c.table;
   few_images = c.few_images;
+  few_logs = c.few_logs;
   few_entries = omega (arith, names_counted t.volumes, both_groups t.volumes, one_at_most (making t) c.one_entry, one_at_most (folding t) c.one_folding);
 }
 
-pub openable_small : {s : Site} {t : VolumeTable} → IsOpenable s t → IsSmall s.count t
-openable_small {s} {t} c = record {
+pub openable_small : {s : Site} {t : VolumeTable} → IsOpenable s t → HasFewLogs t → IsSmall s.count t
+openable_small {s} {t} c few_logs = record {
   table = c.table;
   few_images = c.few_images;
+  few_logs = few_logs;
   few_entries = omega (arith, names_counted t.volumes, both_groups t.volumes, one_at_most (making t) c.one_entry, one_at_most (folding t) c.one_folding);
 }
 

@@ -22,6 +22,7 @@ use Rattle.vhd_chain.specs.Trees.{without}
 use Rattle.vhd_chain.specs.declared.rows.TreeRow.{TreeRow}
 use Rattle.sm_recover.specs.Backs.{CanGiveBack, IsFreeAgain, entry_back, fork_back, rows_back}
 use Rattle.sm_recover.specs.Ending.{rows_ended, unleafed}
+use Rattle.sm_recover.specs.Repairs.{HasFewLogs}
 use Rattle.sm_checks.specs.Faults.{HasLinks, HasPlaces, HasTable}
 use Rattle.sm_checks.specs.Loaded.{AreRowsOf, HasEachRow, read_volumes, shortened, stored_with}
 use Rattle.sm_checks.specs.Openable.{IsOpenable}
@@ -44,7 +45,7 @@ first_none false y h = refl
 first_none true y h = absurd (true≢false h)
 
 -- what a fork gives back depends on the base that is found
-same_back : (t u : VolumeTable) (ys : List TreeRow) (o : Option Name) → ((d b w : List ℕ) → o ≡ Some (Clone d b w) → image_with u b ≡ image_with t b) → entry_back u o ys ≡ entry_back t o ys
+pub same_back : (t u : VolumeTable) (ys : List TreeRow) (o : Option Name) → ((d b w : List ℕ) → o ≡ Some (Clone d b w) → image_with u b ≡ image_with t b) → entry_back u o ys ≡ entry_back t o ys
 same_back t u ys None base = refl
 same_back t u ys (Some (Clone d b w)) base = ap (λ o. fork_back o d (without (Vhd w) ys)) (base d b w refl)
 same_back t u ys (Some Mgt) base = refl
@@ -57,7 +58,7 @@ same_back t u ys (Some (Coalesce v p)) base = refl
 same_back t u ys (Some (Relink v p)) base = refl
 same_back t u ys (Some (Leaf l p)) base = refl
 
-module _ {S : Type 0} (g : Ghosts S) (store : S) (xs : List TreeRow) (places : List (Option Record)) {t : VolumeTable} (c : IsOpenable (g.site store) t) (are : AreRowsOf (read_volumes t) xs)
+module _ {S : Type 0} (g : Ghosts S) (store : S) (xs : List TreeRow) (places : List (Option Record)) {t : VolumeTable} (c : IsOpenable (g.site store) t) (few : HasFewLogs t) (are : AreRowsOf (read_volumes t) xs)
     (each : HasEachRow g.told (stored_with g store (shortened t)) (read_volumes t) xs) (long : length places ≡ place_count)
     (pass : (x : Outline) → HasTable (g.site store).geometry t x → HasLinks xs x → HasPlaces places x → fault_of x ≡ None) where
   abbrev s : Site
@@ -134,20 +135,20 @@ module _ {S : Type 0} (g : Ghosts S) (store : S) (xs : List TreeRow) (places : L
 
   -- in either case
   pub ends_back : (ys : List TreeRow) → rows_back (unleafed t) ys ≡ rows_back t ys
-  ends_back ys = of_leaf g store xs places c are each long pass (rows_back (unleafed t) ys ≡ rows_back t ys)
+  ends_back ys = of_leaf g store xs places c few are each long pass (rows_back (unleafed t) ys ≡ rows_back t ys)
       (λ l p found. ap (λ v. rows_back v ys) (memory.unleafed_is g store xs places c are each long pass l p found) ∙ leaf_backs l p found ys)
-      (λ other. ap (λ v. rows_back v ys) (as_was g store xs places c are each long pass other))
+      (λ other. ap (λ v. rows_back v ys) (as_was g store xs places c few are each long pass other))
 
   pub records_same : rows (unleafed t) Mgt ≡ rows t Mgt
-  records_same = of_leaf g store xs places c are each long pass (rows (unleafed t) Mgt ≡ rows t Mgt)
+  records_same = of_leaf g store xs places c few are each long pass (rows (unleafed t) Mgt ≡ rows t Mgt)
       (λ l p found. ap (λ v. rows v Mgt) (memory.unleafed_is g store xs places c are each long pass l p found)
       ∙ row_same l p found Mgt (λ h. let y = h in cc) (λ h. let y = h in cc) (λ h. let y = h in cc) (λ h. let y = h in cc) (λ e h. let y = h in cc))
-      (λ other. ap (λ v. rows v Mgt) (as_was g store xs places c are each long pass other))
+      (λ other. ap (λ v. rows v Mgt) (as_was g store xs places c few are each long pass other))
 
   pub can_back : CanGiveBack t (rows_ended t xs)
   can_back =
-      let k = is_then g store xs places c are each long pass in
+      let k = is_then g store xs places c few are each long pass in
       let can = can_give_back (rows_ended t xs) (staged_end k.checked) k.are in
-      of_leaf g store xs places c are each long pass (CanGiveBack t (rows_ended t xs))
+      of_leaf g store xs places c few are each long pass (CanGiveBack t (rows_ended t xs))
       (λ l p found. leaf_gives l p found (rows_ended t xs) (subst (λ v. CanGiveBack v (rows_ended t xs)) (memory.unleafed_is g store xs places c are each long pass l p found) can))
-      (λ other. subst (λ v. CanGiveBack v (rows_ended t xs)) (as_was g store xs places c are each long pass other) can)
+      (λ other. subst (λ v. CanGiveBack v (rows_ended t xs)) (as_was g store xs places c few are each long pass other) can)

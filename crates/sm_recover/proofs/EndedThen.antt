@@ -8,6 +8,7 @@ use Rattle.common_laws.specs.Lists.{In, first_some}
 use Rattle.common_laws.proofs.Booleans.{not_false}
 use Rattle.common_laws.proofs.Lists.{In-map_at, filter-In}
 use Rattle.sm_base.specs.Limits.{extent_limit}
+use Rattle.sm_base.specs.Kinds.{is_log}
 use Rattle.sm_base.specs.declared.names.Name.{Name}
 use Rattle.sm_base.specs.declared.names.Name.TheVariants.{Mgt, Vhd, Raw, Old, Cbt, Clone, Inflate, Coalesce, Relink, Leaf}
 use Rattle.vg_meta.specs.Changes.{applied}
@@ -35,8 +36,8 @@ use Rattle.sm_recover.specs.Ending.{CanEnd, IsEndedSo, leaf_back, leaf_ends, row
 use Rattle.sm_checks.specs.Faults.{HasLinks, HasPlaces, HasTable, table_faults}
 use Rattle.sm_checks.specs.Loaded.{AreRowsOf, HasEachRow, read_volumes, shortened, stored_with}
 use Rattle.sm_checks.specs.Openable.{IsOpenable}
-use Rattle.sm_recover.specs.Repairs.{IsEndable}
-use Rattle.sm_recover.proofs.CountLaws.{IsLean, IsSmall, small_fits, small_next}
+use Rattle.sm_recover.specs.Repairs.{HasFewLogs, IsEndable}
+use Rattle.sm_recover.proofs.CountLaws.{IsLean, IsSmall, small_all, small_fits, small_next}
 use Rattle.sm_recover.proofs.EndLaws.{EndCase, all_join, all_wanted, end_case, openable_small}
 use Rattle.sm_recover.proofs.UndoLaws.{IsOld}
 use Rattle.sm_recover.proofs.UnfoldLaws.{HasFolding, changes_same, folding_none, unfolded_is, unfolded_none}
@@ -97,8 +98,8 @@ known_of {s} {t} c other = all-of (λ r. is_known r ≡ true) t.volumes (λ r i.
     by r i (Coalesce v p) is = ap is_known_name is
     by r i (Relink v p) is = ap is_known_name is
 
-pub endable_of : {s : Site} {t : VolumeTable} → IsOpenable s t → IsKnown t → IsEndable s t
-endable_of c known = record {
+pub endable_of : {s : Site} {t : VolumeTable} → IsOpenable s t → HasFewLogs t → IsKnown t → IsEndable s t
+endable_of c few_logs known = record {
   table = c.table;
   few_extents = c.few_extents;
   known = known;
@@ -107,6 +108,7 @@ endable_of c known = record {
   at_stage = c.at_stage;
   named = c.named;
   few_images = c.few_images;
+  few_logs = few_logs;
   record_volume = c.record_volume;
 }
 
@@ -150,24 +152,24 @@ rows_unled t xs other = let no = is_unled t xs (head (folding t)) other in no.sa
 
 -- ---- what looks at the table alone
 
-tables_alike : (x y : Outline) → y.extent ≡ x.extent → y.table ≡ x.table → first_some (table_faults y) ≡ first_some (table_faults x)
+pub tables_alike : (x y : Outline) → y.extent ≡ x.extent → y.table ≡ x.table → first_some (table_faults y) ≡ first_some (table_faults x)
 unfolding record_volume_fault too_many_fault misnamed_fault second_entry_fault lost_entry_fault old_leaf_fault
 tables_alike x y extent table = ap₂ (λ e t. first_some (table_faults (record y { extent = e; table = t }))) extent table
 
-first_front : {A : Type 0} (xs ys : List (Option A)) → first_some (xs ++ ys) ≡ None → first_some xs ≡ None
+pub first_front : {A : Type 0} (xs ys : List (Option A)) → first_some (xs ++ ys) ≡ None → first_some xs ≡ None
 first_front [] ys h = refl
 first_front (Some y ∷ xs) ys h = h
 first_front (None ∷ xs) ys h = first_front xs ys h
 
 -- ---- what holds of each change that ends a leaf's folding
 
-module _ (P : Change → Type 0) (cut : (n : Name) (k : ℕ) → P (Cut n k)) (gone : (n : Name) → P (Remove n)) (shown : (n : Name) → P (Mark n Hidden false)) (moved : (u v : List ℕ) → P (Rename (Vhd u) (Vhd v))) where
+module _ (P : Change → Type 0) (cut : (u : List ℕ) (k : ℕ) → P (Cut (Vhd u) k)) (gone : (n : Name) → is_log n ≡ false → P (Remove n)) (shown : (u : List ℕ) → P (Mark (Vhd u) Hidden false)) (moved : (u v : List ℕ) → P (Rename (Vhd u) (Vhd v))) where
   of_parent : (t : VolumeTable) (p : List ℕ) (o : Option Name) → AllByRecursion P (parent_changes t p o)
   of_parent t p None = tt
   of_parent t p (Some (Inflate u e)) = by (bytes_eq u p)
     where
       by : (b : Bool) → AllByRecursion P (cond b (changes_back t (Inflate u e)) [])
-      by true = all_join P (wanted (of_row (is_longer e) (rows t (Vhd u))) (Cut (Vhd u) e)) (Remove (Inflate u e) ∷ []) (all_wanted P (of_row (is_longer e) (rows t (Vhd u))) (Cut (Vhd u) e) (cut (Vhd u) e)) (gone (Inflate u e), tt)
+      by true = all_join P (wanted (of_row (is_longer e) (rows t (Vhd u))) (Cut (Vhd u) e)) (Remove (Inflate u e) ∷ []) (all_wanted P (of_row (is_longer e) (rows t (Vhd u))) (Cut (Vhd u) e) (cut u e)) (gone (Inflate u e) refl, tt)
       by false = tt
   of_parent t p (Some Mgt) = tt
   of_parent t p (Some (Vhd v)) = tt
@@ -185,18 +187,18 @@ module _ (P : Change → Type 0) (cut : (n : Name) (k : ℕ) → P (Cut n k)) (g
       by : (a b : Bool) → AllByRecursion P (cond a (parent_changes t p (head (making t)) ++ (Rename (Vhd p) (Vhd l) ∷ Mark (Vhd l) Hidden false ∷ leaf_gone l p))
           (cond b (wanted (of_row (λ r. r.hidden) (rows t (Vhd l))) (Mark (Vhd l) Hidden false) ++ leaf_gone l p) (Remove (Leaf l p) ∷ [])))
       by true b = all_join P (parent_changes t p (head (making t))) (Rename (Vhd p) (Vhd l) ∷ Mark (Vhd l) Hidden false ∷ leaf_gone l p) (of_parent t p (head (making t)))
-          (moved p l, (shown (Vhd l), (gone (Old l), (gone (Leaf l p), tt))))
+          (moved p l, (shown l, (gone (Old l) refl, (gone (Leaf l p) refl, tt))))
       by false true = all_join P (wanted (of_row (λ r. r.hidden) (rows t (Vhd l))) (Mark (Vhd l) Hidden false)) (leaf_gone l p)
-          (all_wanted P (of_row (λ r. r.hidden) (rows t (Vhd l))) (Mark (Vhd l) Hidden false) (shown (Vhd l))) (gone (Old l), (gone (Leaf l p), tt))
-      by false false = (gone (Leaf l p), tt)
+          (all_wanted P (of_row (λ r. r.hidden) (rows t (Vhd l))) (Mark (Vhd l) Hidden false) (shown l)) (gone (Old l) refl, (gone (Leaf l p) refl, tt))
+      by false false = (gone (Leaf l p) refl, tt)
 
 -- they make nothing
 leaf_lean : (t : VolumeTable) (l p : List ℕ) → AllByRecursion IsLean (leaf_changes t l p)
-leaf_lean = of_changes IsLean (λ n k. tt) (λ n. tt) (λ n. tt) (λ u v. (refl, refl))
+leaf_lean = of_changes IsLean (λ u k. tt) (λ n other. tt) (λ u. tt) (λ u v. (refl, refl))
 
 -- nor is a volume new behind them that was not
 pub leaf_old : (t : VolumeTable) (l p : List ℕ) → AllByRecursion IsOld (leaf_changes t l p)
-leaf_old = of_changes IsOld (λ n k. (tt, λ r. refl)) (λ n. (tt, tt)) (λ n. (tt, λ r. refl)) (λ u v. ((refl, refl), λ r named. refl))
+leaf_old = of_changes IsOld (λ u k. (tt, λ r. refl)) (λ n other. (tt, tt)) (λ u. (tt, λ r. refl)) (λ u v. ((refl, refl), λ r named. refl))
 
 -- so each is allowed in its turn
 all_may : {count : ℕ} → count ≤ extent_limit → (t : VolumeTable) (cs : List Change) → IsSmall count t → AllPermit count t cs → AllByRecursion IsLean cs → AllMay count t cs
@@ -243,7 +245,7 @@ pub record IsThen {S : Type 0} (g : Ghosts S) (store : S) (xs ys : List TreeRow)
   pub each : HasEachRow g.told (stored_with g store (shortened u)) (read_volumes u) ys
   pub pass : (x : Outline) → HasTable (g.site store).geometry u x → HasLinks ys x → HasPlaces places x → PassesButLeaf x
 
-module _ {S : Type 0} (g : Ghosts S) (store : S) (xs : List TreeRow) (places : List (Option Record)) {t : VolumeTable} (c : IsOpenable (g.site store) t) (are : AreRowsOf (read_volumes t) xs)
+module _ {S : Type 0} (g : Ghosts S) (store : S) (xs : List TreeRow) (places : List (Option Record)) {t : VolumeTable} (c : IsOpenable (g.site store) t) (few : HasFewLogs t) (are : AreRowsOf (read_volumes t) xs)
     (each : HasEachRow g.told (stored_with g store (shortened t)) (read_volumes t) xs) (long : length places ≡ place_count)
     (pass : (x : Outline) → HasTable (g.site store).geometry t x → HasLinks xs x → HasPlaces places x → fault_of x ≡ None) where
   abbrev s : Site
@@ -257,7 +259,7 @@ module _ {S : Type 0} (g : Ghosts S) (store : S) (xs : List TreeRow) (places : L
   unended other =
       let known = known_of c other in
       subst₂ (λ ys v. IsThen g store xs ys places t v) (sym (rows_unled t xs other)) (sym (as_was other)) (record {
-        checked = endable_of c known;
+        checked = endable_of c few known;
         are = are;
         each = each;
         pass = λ x has links in_places. outline_but_leaf x (pass x has links in_places) (subst IsKnown (sym has.table) known);
@@ -279,17 +281,21 @@ module _ {S : Type 0} (g : Ghosts S) (store : S) (xs : List TreeRow) (places : L
     known : IsKnown u
     known = simple_known u (memory.left_simple g store xs places c are each long pass l p found)
 
+    allowed : AllMay s.count t (leaf_ends t (Some (Leaf l p)))
+    allowed = all_may c.few_extents t (leaf_changes t l p) (openable_small c few) (memory.left_permits g store xs places c are each long pass l p found) (leaf_lean t l p)
+
+    few_then : HasFewLogs u
+    few_then = subst HasFewLogs (memory.unleafed_is g store xs places c are each long pass l p found)
+        (subst (λ o. HasFewLogs (applied_all t (leaf_ends t o))) (sym found) (small_all t (leaf_changes t l p) (openable_small c few) allowed (leaf_lean t l p)).few_logs)
+
     then_ended : IsThen g store xs (rows_ended t xs) places t (unleafed t)
     then_ended =
         subst₂ (λ ys v. IsThen g store xs ys places t v) (sym (ended_some t xs (Leaf l p) found)) (sym (memory.unleafed_is g store xs places c are each long pass l p found)) (record {
-          checked = endable_of checked known;
+          checked = endable_of checked few_then known;
           are = memory.ended_are g store xs places c are each long pass l p found (staged_open checked);
           each = memory.ended_each g store xs places c are each long pass l p found (staged_open checked);
           pass = λ x has links in_places. outline_but_leaf x (memory.ended_pass g store xs places c are each long pass l p found (staged_open checked) x has links in_places) (subst IsKnown (sym has.table) known);
         })
-
-    allowed : AllMay s.count t (leaf_ends t (Some (Leaf l p)))
-    allowed = all_may c.few_extents t (leaf_changes t l p) (openable_small c) (memory.left_permits g store xs places c are each long pass l p found) (leaf_lean t l p)
 
     can_end : CanEnd t (Some (Leaf l p)) xs
     can_end = memory.can_end g store xs places c are each long pass l p found (staged_open checked)
@@ -321,7 +327,7 @@ module _ {S : Type 0} (g : Ghosts S) (store : S) (xs : List TreeRow) (places : L
 
   other_bare : ((l p : List ℕ) → head (folding t) ≢ Some (Leaf l p)) → IsEndedSo t
   other_bare other =
-      let k = ends_other (endable_of c (known_of c other)) in
+      let k = ends_other (endable_of c few (known_of c other)) in
       let no = is_unled t xs (head (folding t)) other in
       let is = as_was other in
       record {

@@ -49,8 +49,9 @@ use Rattle.sm_recover.proofs.CountLaws.{later_all}
 use Rattle.sm_recover.proofs.EndLaws.{EndCase, end_case, first_long, first_table, link_behind}
 use Rattle.sm_checks.proofs.EntryLaws.{enlarged_found, fork_found, undone_applied}
 use Rattle.sm_recover.proofs.UndoTables.{staged, staged_end}
+use Rattle.sm_recover.proofs.KeptLogs.{first_keeps, same_kept}
 use Rattle.sm_recover.proofs.StepLaws.{part_all, part_few}
-use Rattle.sm_recover.proofs.UndoLaws.{few_behind, left_same, none_folded}
+use Rattle.sm_recover.proofs.UndoLaws.{IsKeptAs, few_behind, left_same, none_folded}
 use Rattle.sm_recover.proofs.UndoneLaws.{IsOther, back_row, decide, dropped, not_making, row_listed, taken_from, undone_checked, undone_nothing}
 use Rattle.sm_recover.proofs.UnfoldLaws.{HasFolding, changes_same, folding_gone, folding_none, making_same, undoable_unfolded, unfolded_is, unfolded_none}
 
@@ -65,7 +66,7 @@ module _ (x : Stored) (c : IsEndable x.site x.table) where
 
   pub first_same : (v : VolumeTable) (image : ℕ → List ℕ) → IsLeftOf x (IsPartOf t (first_changes t)) v image → IsSettled x.area → IsSoundButLeaf (content_of x) → HoldsWell (content_of x)
       → IsSame (content_of x) (content_in x.site v image)
-  first_same v image left settled sound well = by (end_case c)
+  first_same v image left settled sound well = same_kept x v image c.table (left.sectors settled) (first_keeps c v left.table) (by (end_case c))
     where
       s : KnownSound (content_of x)
       s = but_leaf_known (content_of x) sound
@@ -73,8 +74,8 @@ module _ (x : Stored) (c : IsEndable x.site x.table) where
       part_at : (o : Option Name) → head (folding t) ≡ o → IsPartOf t (ends_copy o ++ undo_changes (applied_all t (ends_copy o))) v
       part_at o is = subst (λ y. IsPartOf t (ends_copy y ++ undo_changes (applied_all t (ends_copy y))) v) is left.table
 
-      copied : (a b : List ℕ) (f : HasFolding t (Coalesce a b)) (k : ℕ) → v ≡ applied_all t (take k (Remove (Coalesce a b) ∷ undo_changes (applied t (Remove (Coalesce a b))))) → IsSame (content_of x) (content_in x.site v image)
-      copied a b f zero is = subst (λ u. IsSame (content_of x) (content_in x.site u image)) (sym is) (record {
+      copied : (a b : List ℕ) (f : HasFolding t (Coalesce a b)) (k : ℕ) → v ≡ applied_all t (take k (Remove (Coalesce a b) ∷ undo_changes (applied t (Remove (Coalesce a b))))) → IsKeptAs (content_of x) (content_in x.site v image)
+      copied a b f zero is = subst (λ u. IsKeptAs (content_of x) (content_in x.site u image)) (sym is) (record {
         kept = area_kept (content_of x) c.table x.site.geometry.in_range s image (left.sectors settled) well;
         same_disks = area_disks (content_of x) c.table x.site.geometry.in_range s image (left.sectors settled);
       })
@@ -85,7 +86,7 @@ module _ (x : Stored) (c : IsEndable x.site x.table) where
           (subst (λ u. SimpleSound (content_of (less u))) at (unfolded_sound (content_of x) s c.table)) (subst (λ u. HasNoEmptySlot (content_of (less u))) at (unfolded_holding (content_of x) s well.holding)) in
           record { kept = same.kept; same_disks = same.same_disks ∙ sym (ap (λ u. disks (content_of (less u))) at) ∙ unfolded_disks (content_of x) s c.table }
 
-      by : EndCase t → IsSame (content_of x) (content_in x.site v image)
+      by : EndCase t → IsKeptAs (content_of x) (content_in x.site v image)
       by (inl none) =
           let quiet = folding_none (folding t) none in
           left_same x v image c.table (record { table = part_at None none; sectors = left.sectors }) settled (but_leaf_sound (content_of x) sound quiet) well.holding

@@ -331,7 +331,7 @@ module _ {S : Type 0} (g : Ghosts S) (store : S) (xs : List TreeRow) (places : L
     from_passed : (has_twin was from ≡ false) × (are_past was from ≡ true)
     from_passed = passed from base.image (ap (λ n. is_image n && (has_twin was n || not (are_past was n))) (sym own_name) ∙ named own own_in)
 
-    own_filled : own.fresh ≡ false
+    pub own_filled : own.fresh ≡ false
     own_filled = not_true own.fresh (sym (ap (of_row (λ r. not r.fresh)) base.there) ∙ ⊎_elim vhd raw from_kind)
       where
         unfilled : (n : Name) → is_there was n ≡ false → is_filled was n ≡ false

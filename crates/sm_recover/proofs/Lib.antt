@@ -19,6 +19,7 @@ mod HoldingLaws
 mod SeenLaws
 pub mod LinkingLaws
 pub mod LinkUpLaws
+pub mod DropLaws
 pub mod EndLaws
 pub mod FirstLaws
 pub mod SweptLaws
@@ -26,8 +27,22 @@ pub mod EndingRows
 pub mod MovedRows
 pub mod EndedMemory
 pub mod EndedThen
+pub mod KeptLogs
 pub mod EndedForks
 pub mod CheckedMemory
 pub mod TakenOver
 pub mod LeafSettled
 pub mod UndoTables
+pub mod TrackedLaws
+pub mod DroppedChecks
+pub mod StandingLaws
+pub mod GoodLaws
+pub mod GoodBehind
+pub mod PiecesLaws
+pub mod OpenedLogs
+pub mod FewLogs
+pub mod MemoryLogs
+pub mod OpenedOn
+pub mod DroppedThen
+pub mod StoppedLaws
+pub mod LogsRead

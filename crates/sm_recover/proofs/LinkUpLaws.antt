@@ -41,9 +41,10 @@ use Rattle.vg_volumes.specs.Stored.{stored}
 use Rattle.vg_volumes.specs.declared.stores.Store.{Ghosts}
 use Rattle.sm_ready.specs.Outlined.{link_in}
 use Rattle.sm_ready.specs.Ready.{IsBelow, IsReady}
-use Rattle.sm_ready.specs.Stores.{content_now}
+use Rattle.sm_ready.specs.Stores.{content_now, store_content}
 use Rattle.sm_ready.proofs.LeftLaws.{left_in, left_now, links_left}
 use Rattle.sm_ready.proofs.Orders.{In-tree_row}
+use Rattle.sm_ready.proofs.SameLogs.{same_logs_none}
 use Rattle.gc_abandon.proofs.EntryLaws.{IsReentered, extents_entry, image_entry, orderly_entry, ready_entry}
 use Rattle.sm_checks.specs.Links.{HasLink}
 use Rattle.sm_recover.specs.Linking.{IsLinkBegun, LinkedBy, LinksAll, LinksRest, link_image}
@@ -210,7 +211,7 @@ module _ {S : Type 0} (g : Ghosts S) (a : S) (m : Memory) (able : IsLinkable (g.
     none_shape = subst (λ h. LinkedBy h m.tree.rows (shape_in (g.site a) (unfolded t) (known m)) (store_shape g a m)) (sym no_entry) (sym (ap (λ u. shape_in (g.site a) u (known m)) same_table))
 
     pub none_rest : IsLinkBegun (stored g a) (known m) → LinksRest g a a m
-    none_rest b = record { ready = subst (λ u. IsReady (g.site a) u (g.area a) (known m)) same_table b.ready; settled = b.settled; same_disks = refl }
+    none_rest b = record { ready = subst (λ u. IsReady (g.site a) u (g.area a) (known m)) same_table b.ready; settled = b.settled; same_disks = refl; same_logs = same_logs_none (store_content g a) }
 
   -- where children are linked
   module _ (v n : Name) (some : Some v ≡ link_image (head (folding t))) (under : Some n ≡ parent_of m.tree.rows v) where

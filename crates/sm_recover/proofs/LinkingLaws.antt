@@ -1,6 +1,6 @@
 -- Children that are linked one after the other: what a link makes of the shape in memory, that fewer children are left, and that what a
 -- stop leaves has the disks from before.
-use Rattle.std.proofs.Common.{◌≡◌, ◌⊎◌, inl, inr, ⊎_elim, ℕ, suc, ◌+◌, ◌<◌, Bool, true, false, cond, List, [], ◌∷◌, map, length, Option, Some, None, refl, sym, ap, ap₂, ◌∙◌, subst, arith}
+use Rattle.std.proofs.Common.{◌≡◌, ◌⊎◌, inl, inr, ⊎_elim, ℕ, suc, ◌+◌, ◌<◌, Bool, true, false, cond, List, [], ◌∷◌, map, length, Option, Some, None, refl, sym, ap, ap₂, ◌∙◌, subst, subst₂, arith}
 use Rattle.std.proofs.Math.Logic.{∥∥₁_elim}
 use Rattle.std.proofs.Props.{props}
 use Rattle.std.specs.List.{filter, slice_get}
@@ -10,15 +10,18 @@ use Rattle.std.proofs.lemmas.Option.{none-some, same_Some}
 use Rattle.common_laws.specs.Lists.{In, when}
 use Rattle.common_laws.proofs.Lists.{In-filter, In-map, In-map_at}
 use Rattle.sm_base.specs.declared.names.Name.{Name}
+use Rattle.sm_base.specs.declared.names.Name.TheVariants.{Cbt, Relink}
 use Rattle.sm_machine.specs.Operations.{Op}
 use Rattle.sm_machine.specs.Operations as op
 use Rattle.sm_base.specs.declared.operations.Plan.TheVariants as plan
 use Rattle.sm_disk.specs.Held.{IsSettled}
+use Rattle.vg_meta.specs.Changes.{applied}
 use Rattle.vg_meta.specs.Roomy.{table_alone}
-use Rattle.vg_meta.specs.Tables.{VolumeTable, name_eq}
+use Rattle.vg_meta.specs.Tables.{IsTable, VolumeTable, name_eq, rows}
+use Rattle.vg_meta.specs.declared.changes.Change.TheVariants.{Remove}
 use Rattle.vg_meta.proofs.NameLaws.{name_eq-refl, name_eq-true}
 use Rattle.vg_volumes.specs.Sites.{Site}
-use Rattle.vg_volumes.specs.Stored.{IsChoiceOf, stored}
+use Rattle.vg_volumes.specs.Stored.{IsChoiceOf, IsEitherOf, stored}
 use Rattle.vg_volumes.specs.declared.stores.Store.{Ghosts}
 use Rattle.vhd_image.specs.Bodies.{parent_name}
 use Rattle.vhd_chain.specs.Trees.{first_name, is_child_of, row_name, tree_row}
@@ -28,7 +31,7 @@ use Rattle.sm_machine.specs.Collector.{collected, linked, next_step, plan_runnin
 use Rattle.sm_machine.specs.Commits.{commits, gives_up, is_given_up, own_commits, plan_commits}
 use Rattle.sm_machine.specs.Disks.{Disk}
 use Rattle.sm_machine.specs.Runs.{HasSector, face}
-use Rattle.sm_machine.specs.Shapes.{ImageRow, Shape, children, is_image, is_parent, on_image, risen, same_image}
+use Rattle.sm_machine.specs.Shapes.{ImageRow, Shape, children, image_uuid, is_image, is_parent, on_image, risen, same_image}
 use Rattle.sm_machine.specs.Steps.{shape_after, shape_next}
 use Rattle.sm_machine.specs.WellFormed.{IsChild, IsOperation, IsWellFormed}
 use Rattle.sm_machine.specs.declared.commands.Command.TheVariants.{Gc}
@@ -37,6 +40,7 @@ use Rattle.sm_machine.proofs.Debts.{is_itself, parent_apart}
 use Rattle.sm_machine.proofs.ImageNames.{other_image, same_image-sound}
 use Rattle.sm_run.specs.Between.{IsBetween}
 use Rattle.sm_standing.specs.Keeping.{IsKept}
+use Rattle.sm_standing.specs.LogChecks.{HasLogsOf}
 use Rattle.sm_standing.specs.Opened.{linked_past, past_parent}
 use Rattle.sm_standing.specs.Ordered.{Rising, disk_cmp}
 use Rattle.sm_standing.specs.Standing.{disks}
@@ -46,18 +50,24 @@ use Rattle.sm_disk.proofs.HeldLaws.{Keeps-none}
 use Rattle.sm_machine.specs.Steps.{disks_next}
 use Rattle.sm_ready.specs.Does.{ShapesAs, StoreDoes, store_shape}
 use Rattle.sm_ready.specs.Frames.{HasTrueImages}
-use Rattle.sm_ready.specs.Known.{Known, known, machine_row, shape_in}
+use Rattle.sm_ready.specs.Known.{Known, entry_of, known, machine_row, shape_in}
 use Rattle.sm_ready.specs.Sessions.{IsOrderlyStore, IsReadyStore}
 use Rattle.sm_ready.specs.Orderly.{IsOrderly}
 use Rattle.sm_ready.specs.Repairs.{IsSame}
-use Rattle.sm_ready.specs.Stores.{MayShow, StoreLeaves, content_in, store_content}
+use Rattle.sm_ready.specs.Ready.{IsReady}
+use Rattle.sm_ready.specs.Stores.{MayShow, StoreLeaves, content_in, content_now, store_content}
 use Rattle.sm_ready.specs.declared.memory.Memory.{Memory}
+use Rattle.sm_ready.proofs.LogLaws.{holds_ready}
 use Rattle.sm_ready.proofs.RowLaws.{tree_found}
+use Rattle.sm_ready.proofs.SameLogs.{same_logged, same_logs_left, same_logs_then}
 use Rattle.sm_ready.proofs.ShowLaws.{kept_ready, settled_ready}
 use Rattle.sm_ready.proofs.TakenLaws.{IsTold, is_told}
+use Rattle.gc_abandon.proofs.EndingLaws.{ends}
 use Rattle.gc_plan.proofs.ImageLaws.{children_counted, children_found}
 use Rattle.gc_plan.proofs.PlanLaws.{link_next}
 use Rattle.sm_recover.specs.Linking.{LinksPast, LinksSome, linked_on}
+use Rattle.sm_recover.proofs.KeptLogs.{KeepsLogs, either_keeps, keeps_none, keeps_one}
+use Rattle.sm_recover.proofs.UndoLaws.{IsKeptAs}
 
 -- ---- lists of disks
 
@@ -125,7 +135,7 @@ module _ {S : Type 0} {g : Ghosts S} {b : S} {m : Memory} (h : IsTold g b m) (se
   -- what might have been left is what stands, so what is between is that
   pub between_same : (v : VolumeTable) (image : ℕ → List ℕ)
       → IsKept (content_in (g.site b) v image) × IsBetween (MayShow (g.site b) (StoreLeaves g b)) (disks (store_content g b)) (disks (store_content g b)) (disks (content_in (g.site b) v image))
-      → IsSame (store_content g b) (content_in (g.site b) v image)
+      → IsKeptAs (store_content g b) (content_in (g.site b) v image)
   between_same v image (kept, inl still) = record {
     kept = kept;
     same_disks = same_shown (disks (store_content g b)) (disks (content_in (g.site b) v image)) (rising-disks (store_content g b)) still.faces
@@ -267,6 +277,11 @@ module _ (s : Site) (t : VolumeTable) (m : Known) (o : IsOrderly s t m) (v p : N
 
 -- ---- in a store
 
+-- what a stop leaves behind a link has the table from before
+pub unlinked_keeps : {S : Type 0} (g : Ghosts S) (b d : S) {t : VolumeTable} {image : ℕ → List ℕ} → IsTable (g.site b).count (table_alone (g.table b)) → table_alone (g.table d) ≡ table_alone (g.table b) → IsChoiceOf (stored g d) t image
+    → KeepsLogs (g.site b).count (table_alone (g.table b)) t
+unlinked_keeps g b d table same stop = subst (KeepsLogs (g.site b).count (table_alone (g.table b))) (sym (stop.table_is ∙ same)) (keeps_none table)
+
 -- the image whose children are linked is the operation's
 of_op : {A : Type 0} (x : Op) (v : Name) → LinksPast v x → ((p : Name) → x ≡ op.Relink v p → A) → A
 of_op (op.Relink w p) v links use_it = use_it p (ap (λ n. op.Relink n p) links)
@@ -315,16 +330,24 @@ module _ {S : Type 0} (g : Ghosts S) where
       links_more = of_op k.operation v links (λ p is.
           ap (λ x. linked_on x (store_shape g d n)) is ∙ link_past (g.site b) (table_alone (g.table b)) (known k) orderly v p c is least (store_shape g d n) shape ∙ sym (ap (λ x. linked_on x (store_shape g b k)) is))
 
+  -- where some were linked the logs are the same
+  links_logs : {a b : S} {m k : Memory} → LinksSome g a m b k → g.told → IsReadyStore g a m → HasLogsOf (store_content g a) (store_content g b)
+  links_logs some told ready = same_logged ready.logs (some.ready told ready).logs some.logs (λ u. ap (λ t. rows t (Cbt u)) some.table) (omega (arith, ap (λ (t : VolumeTable). t.sequence) some.table))
+
   -- what a stop leaves of the next link, behind some
   pub links_stop : {a b d : S} {m k : Memory} (n : Memory) {ok : Type 0} {t : VolumeTable} {image : ℕ → List ℕ} → LinksSome g a m b k → g.told → ((v : VolumeTable) (f : ℕ → List ℕ) → g.leaves b v f → IsChoiceOf (stored g b) v f)
-      → StoreDoes g Gc b k d n ok → IsSettled (g.area a) → IsReadyStore g a m → g.leaves d t image → IsSame (store_content g a) (content_in (g.site a) t image)
+      → StoreDoes g Gc b k d n ok → n.logs ≡ k.logs → KeepsLogs (g.site b).count (table_alone (g.table b)) t → IsSettled (g.area a) → IsReadyStore g a m → g.leaves d t image
+      → IsSame (store_content g a) (content_in (g.site a) t image)
   unfolding disks_next
-  links_stop {a} {b} {d} {m} {k} n {ok} {t} {image} some told now done settled ready leaves =
+  links_stop {a} {b} {d} {m} {k} n {ok} {t} {image} some told now done logs keeps settled ready leaves =
       let h = is_told g b k some.orderly some.usable told (some.ready told ready) now in
       let same = between_same h (some.settled told settled) t image (done.crash t image (inl leaves)) in
       record {
+        table = subst (λ z. IsTable z.count t) some.site keeps.table;
         kept = subst (λ z. IsKept (content_in z t image)) some.site same.kept;
         same_disks = ap (λ z. disks (content_in z t image)) (sym some.site) ∙ same.same_disks ∙ some.same_disks told settled ready;
+        same_logs = subst (λ z. HasLogsOf (store_content g a) (content_in z t image)) some.site (same_logs_then (links_logs some told ready)
+            (same_logged (some.ready told ready).logs (done.logged t image (inl leaves)) logs keeps.volumes keeps.later));
       }
 
   -- what a stop leaves where none is left
@@ -334,13 +357,38 @@ module _ {S : Type 0} (g : Ghosts S) where
       let h = is_told g b k some.orderly some.usable told (some.ready told ready) now in
       let may : MayShow (g.site b) (StoreLeaves g b) (disks (content_in (g.site b) t image)) = record { table = t; image = image; left = inl leaves; shown = refl } in
       let shown = settled_ready h (some.settled told settled) (disks (content_in (g.site b) t image)) may in
+      let stop = now t image leaves in
       record {
+        table = subst₂ (λ z u. IsTable z.count u) some.site (sym stop.table_is) some.orderly.table;
         kept = subst (λ z. IsKept (content_in z t image)) some.site (kept_ready h t image (inl leaves));
         same_disks = ap (λ z. disks (content_in z t image)) (sym some.site)
             ∙ same_shown (disks (store_content g b)) (disks (content_in (g.site b) t image)) (rising-disks (store_content g b)) shown.faces shown.sectors ∙ some.same_disks told settled ready;
+        same_logs = subst (λ z. HasLogsOf (store_content g a) (content_in z t image)) some.site (same_logs_then (links_logs some told ready)
+            (subst (λ u. HasLogsOf (store_content g b) (content_in (g.site b) u image)) (sym stop.table_is)
+            (same_logs_left (holds_ready (g.site b) (table_alone (g.table b)) (g.area b) (known k) some.orderly (some.ready told ready)) some.orderly.table image stop.sectors)));
       }
 
   module _ {a b : S} {m k : Memory} (v : Name) (some : LinksSome g a m b k) (links : LinksPast v m.operation) (none : tree.children k.tree.rows v ≡ []) where
+    -- a stop leaves the volumes of logs, whether the entry is gone or not
+    pub end_keeps : {t : VolumeTable} {image : ℕ → List ℕ} → ((e : Name) → entry_of k.operation ≡ e ∷ [] → IsEitherOf (stored g b) (Remove e) t image) → KeepsLogs (g.site b).count (table_alone (g.table b)) t
+    end_keeps {t} {image} left = of_op m.operation v links (λ p is.
+        let e = Relink (image_uuid v) (image_uuid p) in
+        let ending = ends g b k some.orderly (some.operation ∙ is) refl (let same : e ≡ e = refl in same) in
+        either_keeps (stored g b) t image (Remove e) some.orderly.table ending.permits refl (left e (ap entry_of (some.operation ∙ is))))
+
+    -- and behind it the logs are the same
+    pub ended_logs : g.told → IsReadyStore g a m → (d : S) (n : Memory) → g.site d ≡ g.site b
+        → ((e : Name) → entry_of k.operation ≡ e ∷ [] → table_alone (g.table d) ≡ applied (table_alone (g.table b)) (Remove e)) → IsReady (g.site b) (table_alone (g.table d)) (g.area d) (known n) → n.logs ≡ k.logs
+        → HasLogsOf (store_content g a) (store_content g d)
+    ended_logs told ready d n site table then logs = of_op m.operation v links (λ p is.
+        let e = Relink (image_uuid v) (image_uuid p) in
+        let gone = table e (ap entry_of (some.operation ∙ is)) in
+        let ending = ends g b k some.orderly (some.operation ∙ is) refl (let same : e ≡ e = refl in same) in
+        let keeps = subst (KeepsLogs (g.site b).count (table_alone (g.table b))) (sym gone) (keeps_one (Remove e) some.orderly.table ending.permits refl) in
+        same_logs_then (links_logs some told ready)
+        (subst (λ z. HasLogsOf (store_content g b) (content_now z (table_alone (g.table d)) (g.area d))) (sym site)
+        (same_logged (some.ready told ready).logs then.logs logs keeps.volumes keeps.later)))
+
     -- then the entry goes
     pub end_next : next_step (store_shape g b k) ≡ plan.Finish
     end_next = of_op m.operation v links (λ p is. next_end (g.site b) (table_alone (g.table b)) (known k) some.orderly v p (some.operation ∙ is) none)

@@ -9,7 +9,6 @@ use Rattle.sm_base.specs.declared.names.Name.TheVariants.{Mgt, Vhd, Raw, Old, Cb
 use Rattle.sm_machine.specs.Operations.{Idle}
 use Rattle.sm_base.specs.declared.sizes.Geometry.{Geometry}
 use Rattle.sm_disk.specs.Held.{Held, IsSettled, reads}
-use Rattle.vg_meta.proofs.LogLaws.{no_log_found, volume_no_log}
 use Rattle.vg_meta.specs.Tables.{VolumeTable, Row, IsVolume, extents_of, rows}
 use Rattle.vg_volumes.specs.Sites.{Site, volume_of}
 use Rattle.vg_volumes.specs.Stored.{held_in, sectors_in}
@@ -41,12 +40,16 @@ use Rattle.vhd_image.specs.Steady.{IsSteady}
 use Rattle.vhd_image.specs.declared.images.Body.{Body}
 use Rattle.vhd_image.specs.declared.images.Body.TheVariants as body
 use Rattle.vhd_image.proofs.SteadyLaws.{steady_quiet, true_quiet}
-use Rattle.sm_ready.specs.Known.{Known, machine_row, row_face, shape_in}
-use Rattle.sm_ready.specs.Orderly.{IsOrderly}
+use Rattle.sm_log.specs.Logs.{Log}
+use Rattle.sm_logs.specs.Held.{log_limit}
+use Rattle.sm_standing.specs.Logs.{IsLogged}
+use Rattle.sm_ready.specs.Known.{Known, machine_row, shape_in}
+use Rattle.sm_ready.specs.Orderly.{HasLogRoom, IsOrderly}
 use Rattle.sm_ready.specs.Ready.{IsReady}
 use Rattle.sm_ready.specs.Stores.{content_now}
 use Rattle.sm_ready.proofs.BegunLaws.{IsRead, begun_with, begun_orderly, begun_ready}
-use Rattle.sm_ready.proofs.LogLaws.{logged_none}
+use Rattle.sm_ready.proofs.LogRead.{AreLogsOf, among_all, among_are, among_from, log_among}
+use Rattle.sm_ready.proofs.LogRows.{log-no_image}
 use Rattle.sm_ready.proofs.NewVolumeLaws.{not_records}
 use Rattle.sm_ready.proofs.NumberLaws.{whole_blocks}
 use Rattle.sm_ready.proofs.RepairLaws.{all_quiet}
@@ -83,12 +86,12 @@ plain_image (Raw u) h no_log other = refl
 plain_image (Cbt u) h no_log other = absurd (true≢false no_log)
 plain_image _ h no_log other = absurd (true≢false (sym h))
 
-abbrev row_by : Body → Bool → ℕ → TreeRow
+abbrev pub row_by : Body → Bool → ℕ → TreeRow
 row_by image hidden k = record { image = image; hidden = hidden; extents = k }
 
 module _ (told : Type 0) (s : Site) (t : VolumeTable) (m : Known) (h : Held) where
   -- it is proper
-  row_proper : (n : Name) (image : Body) (hidden : Bool) (k : ℕ) → IsReadAs told s.geometry (k * s.geometry.extent) h n image → 0 < k → volume_name image ≡ n → IsImageRow (shape_in s t m) (machine_row (row_by image hidden k))
+  pub row_proper : (n : Name) (image : Body) (hidden : Bool) (k : ℕ) → IsReadAs told s.geometry (k * s.geometry.extent) h n image → 0 < k → volume_name image ≡ n → IsImageRow (shape_in s t m) (machine_row (row_by image hidden k))
   unfolding shape_in is_image_name table_length is_vhd
   row_proper (Raw u) image hidden k read some named =
       let g = s.geometry.in_range in
@@ -176,20 +179,32 @@ module _ {S : Type 0} (g : Ghosts S) (store : S) (xs : List TreeRow) (places : L
   plain_at : (r : Row) → In r t.volumes → is_plain r ≡ true
   plain_at r i = all-In (λ (x : Row). is_plain x ≡ true) t.volumes r d.plain i
 
-  no_log_at : (r : Row) → In r t.volumes → is_log r.name ≡ false
-  no_log_at r i = volume_no_log r (all-In IsVolume t.volumes r d.table.volumes.each i)
+  image_no_log : (r : Row) → is_image r.name ≡ true → is_log r.name ≡ false
+  image_no_log r image = by (is_log r.name) refl
+    where
+      by : (b : Bool) → is_log r.name ≡ b → b ≡ false
+      by false e = refl
+      by true e = absurd (true≢false (sym image ∙ log-no_image r.name e))
 
   records_same : rows t Mgt ≡ rows was Mgt
   records_same = records_undone c
 
-  module _ (long : length places ≡ place_count) where
+  module _ (long : length places ≡ place_count) (ls : List Log) (logs : AreLogsOf t ls) (few_logs : length ls ≤ log_limit) (log_room : (l : Log) → In l ls → HasLogRoom s.geometry.extent l) where
+    -- no log is new
+    new_no_log : (r : Row) → In r t.volumes → r.fresh ≡ true → is_log r.name ≡ false
+    new_no_log r i new = by (is_log r.name) refl
+      where
+        by : (b : Bool) → is_log r.name ≡ b → b ≡ false
+        by false e = refl
+        by true e = let l = among_all s.count t ls d.table logs r i e in absurd (true≢false (sym new ∙ (among_from ls r l.0 l.1).filled))
+
     -- ---- each row
 
-    proper : (room : ℕ) (x : TreeRow) → In x xs → IsImageRow (shape_in s t (begun_with xs places room)) (machine_row x)
+    proper : (room : ℕ) (x : TreeRow) → In x xs → IsImageRow (shape_in s t (begun_with xs places ls room)) (machine_row x)
     proper room x i =
         let w = read_row are each x i in
-        subst (λ k. IsImageRow (shape_in s t (begun_with xs places room)) (machine_row (row_by x.image x.hidden k))) (sym w.row.extents)
-        (row_proper g.told s t (begun_with xs places room) (held_in (stored_with g store (undone was)) w.volume.name) w.volume.name x.image x.hidden (length w.volume.extents) w.row.image
+        subst (λ k. IsImageRow (shape_in s t (begun_with xs places ls room)) (machine_row (row_by x.image x.hidden k))) (sym w.row.extents)
+        (row_proper g.told s t (begun_with xs places ls room) (held_in (stored_with g store (undone was)) w.volume.name) w.volume.name x.image x.hidden (length w.volume.extents) w.row.image
         (some_extents w.volume (All-In IsVolume t.volumes w.volume d.table.volumes.each w.there).kind (named_data w.volume.name w.filled.image)) w.row.named)
 
     shown : (x : TreeRow) → In x xs → x.hidden ≡ false → is_some (standing_volume t (image_uuid (row_name x))) ≡ true
@@ -201,7 +216,7 @@ module _ {S : Type 0} (g : Ghosts S) (store : S) (xs : List TreeRow) (places : L
         (uuid_shown t w.volume.name (own_plain t d.plain) (image_named w.volume.name (simple_known_name w.volume.name (plain_simple_name w.volume.name (plain_at w.volume w.there))) (named_data w.volume.name w.filled.image))
         (visible_row t w.volume.name w.volume there ∙ ap₂ (λ h d. not h && not d) hidden w.filled.filled))
 
-    read : IsRead s t (row_among xs) xs places
+    pub read : IsRead s t (row_among xs) xs places (log_among ls) ls
     read = record {
       rows_are = are;
       table = d.table;
@@ -209,11 +224,16 @@ module _ {S : Type 0} (g : Ghosts S) (store : S) (xs : List TreeRow) (places : L
       record_volume = d.record_volume;
       few = d.few_images;
       named = k.named;
-      new_image = λ r i new. plain_image r.name (plain_at r i) (no_log_at r i) (not_records d.table (r, found_in t.volumes d.table.volumes.rising r i, new));
+      new_image = λ r i new. plain_image r.name (plain_at r i) (new_no_log r i new) (not_records d.table (r, found_in t.volumes d.table.volumes.rising r i, new));
       no_entry = no_entry t d.plain;
-      no_log = λ u. ap row_face (no_log_found d.table u);
+      logs_are = among_are s.count t ls d.table logs;
+      log_from = among_from ls;
+      log_all = among_all s.count t ls d.table logs;
+      few_logs = few_logs;
+      logs_in_order = logs.order;
+      log_room = log_room;
       from = read_from xs;
-      all = λ r i image filled. read_each t.volumes xs each r i (plain_image r.name (plain_at r i) (no_log_at r i) (λ is. true≢false (sym image ∙ ap is_image is))) filled;
+      all = λ r i image filled. read_each t.volumes xs each r i (plain_image r.name (plain_at r i) (image_no_log r image) (λ is. true≢false (sym image ∙ ap is_image is))) filled;
       proper = proper;
       parents = k.parents;
       chains = k.chains;
@@ -226,9 +246,9 @@ module _ {S : Type 0} (g : Ghosts S) (store : S) (xs : List TreeRow) (places : L
     }
 
     -- memory as an opening has made it by then
-    pub opened_with : (attached : Attached) → attached.disks ≡ [] → attached.counts ≡ [] → IsOrderly s t (record { rows = xs; places = places; logs = []; attached = attached; op = Idle })
+    pub opened_with : (attached : Attached) → attached.disks ≡ [] → attached.counts ≡ [] → IsOrderly s t (record { rows = xs; places = places; logs = ls; attached = attached; op = Idle })
     opened_with attached disks counts =
-        subst (IsOrderly s t) (λ i. record { rows = xs; places = places; logs = []; attached = record { disks = sym disks i; counts = sym counts i; room = attached.room }; op = Idle })
+        subst (IsOrderly s t) (λ i. record { rows = xs; places = places; logs = ls; attached = record { disks = sym disks i; counts = sym counts i; room = attached.room }; op = Idle })
         (begun_orderly read attached.room)
 
   -- ---- and ready, where nothing is pending, no slot is empty, and the places are those of the store
@@ -272,11 +292,12 @@ module _ {S : Type 0} (g : Ghosts S) (store : S) (xs : List TreeRow) (places : L
         subst₂ (λ k n. IsSteady s.geometry (k * s.geometry.extent) (volume_of s t (g.area store) n) x.image) (sym w.row.extents) (sym w.row.named)
         (steady_named w.volume w.volume.name x.image (found_in t.volumes d.table.volumes.rising w.volume w.there) w.filled.filled w.row.image)
 
-    pub opened_ready : (attached : Attached) → Agrees (records_held s was (g.area store)) places → IsReady s t (g.area store) (record { rows = xs; places = places; logs = []; attached = attached; op = Idle })
-    opened_ready attached agrees =
+    pub opened_ready : (ls : List Log) (attached : Attached) → Agrees (records_held s was (g.area store)) places → IsLogged (content_now s t (g.area store)) ls
+        → IsReady s t (g.area store) (record { rows = xs; places = places; logs = ls; attached = attached; op = Idle })
+    opened_ready ls attached agrees logged =
         begun_ready s t (g.area store) _ steady settled
         (subst (λ o. Agrees (volume s.geometry.extent (extents_of o) (g.area store)) places) (sym records_same) agrees)
-        (logged_none s t (g.area store) (λ u. ap row_face (no_log_found d.table u))) refl
+        logged refl
 
   -- ---- and true, where nothing is pending: a sector in each slot is not asked
 

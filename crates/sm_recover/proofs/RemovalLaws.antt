@@ -1,7 +1,7 @@
 -- What the checks leave known stays while volumes that are new are removed, and the text of such a table fits its slot.
 use Rattle.std.proofs.Common.{◌≡◌, ◌≤◌, true, List, [], length, ap, ◌∙◌, subst, sym, arith}
 use Rattle.std.proofs.lemmas.Bool.{true≢false}
-use Rattle.sm_base.specs.Kinds.{is_image as is_data, is_entry}
+use Rattle.sm_base.specs.Kinds.{is_image as is_data, is_entry, is_log}
 use Rattle.sm_base.specs.declared.names.Name.{Name}
 use Rattle.vg_meta.specs.Changes.{applied}
 use Rattle.vg_meta.specs.Tables.{VolumeTable, Row, extents_of, names_of}
@@ -22,7 +22,6 @@ use Rattle.sm_ready.proofs.GoneLaws.{fewer_left}
 use Rattle.sm_ready.proofs.NewVolumeLaws.{may_remove}
 use Rattle.sm_ready.proofs.Orders.{none_of}
 use Rattle.sm_recover.specs.Repairs.{IsChecked}
-use Rattle.sm_recover.proofs.CountLaws.{no_logs}
 
 pub checked_one : {s : Site} {t : VolumeTable} (n : Name) → IsChecked s t → IsNewVolume t n → IsChecked s (applied t (Remove n))
 checked_one {s} {t} n c new =
@@ -32,6 +31,7 @@ checked_one {s} {t} n c new =
       few_extents = c.few_extents;
       plain = All-without (λ q. is_plain q ≡ true) t.volumes n c.plain;
       few_images = omega (arith, fewer_left (λ q. is_data q.name) n t.volumes, c.few_images);
+      few_logs = omega (arith, fewer_left (λ q. is_log q.name) n t.volumes, c.few_logs);
       record_volume = ap (λ o. length (extents_of o)) (mgt_stays s.count t (Remove n) c.table may) ∙ c.record_volume;
     }
 
@@ -48,4 +48,4 @@ no_entry t plain = none_of (names_in t is_entry) (λ n i.
     true≢false (sym w.1 ∙ ap is_entry r.2 ∙ (not_special r.0.name (all-In (λ (x : Row). is_plain x ≡ true) t.volumes r.0 plain r.1)).no_journal))
 
 pub text_fits : {s : Site} {t : VolumeTable} → IsChecked s t → length (text t) ≤ text_limit s.count
-text_fits {s} {t} c = fits_few s.count t c.table c.few_extents c.few_images (omega (arith, no_logs c.table)) (omega (arith, ap (λ (ns : List Name). length ns) (no_entry t c.plain)))
+text_fits {s} {t} c = fits_few s.count t c.table c.few_extents c.few_images c.few_logs (omega (arith, ap (λ (ns : List Name). length ns) (no_entry t c.plain)))

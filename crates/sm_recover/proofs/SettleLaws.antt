@@ -1,5 +1,7 @@
 -- An opening from the checks on: what stands behind each of its parts is what the checks read, without what was under way.
-use Rattle.std.proofs.Common.{◌≡◌, ◌*◌, ℕ, List, [], length, Option, Some, None, refl, sym, ap, ap₂, ◌∙◌, subst, subst₂}
+use Rattle.std.proofs.Common.{◌≡◌, ◌*◌, ℕ, List, [], length, Option, Some, None, is_some, refl, sym, ap, ap₂, ◌∙◌, subst, subst₂}
+use Rattle.common_laws.specs.Lists.{In}
+use Rattle.common_laws.proofs.Options.{is_some-parts}
 use Rattle.sm_base.specs.declared.names.Name.{Name}
 use Rattle.sm_base.specs.declared.names.Name.TheVariants.{Mgt, Vhd, Raw, Old, Cbt, Clone, Inflate, Coalesce, Relink, Leaf}
 use Rattle.sm_disk.specs.Held.{Held, IsSettled, Keeps, reads}
@@ -16,6 +18,7 @@ use Rattle.sm_standing.specs.Checks.{IsSoundButLeaf}
 use Rattle.sm_standing.specs.Entries.{folding, head}
 use Rattle.sm_standing.specs.Keeping.{HoldsWell}
 use Rattle.sm_standing.specs.Opened.{cleaned, linked_by, linked_up, opened, undone}
+use Rattle.sm_standing.specs.Standing.{standing_volume}
 use Rattle.sm_standing.specs.Unfolded.{unfolded, unfolded_content}
 use Rattle.sm_standing.proofs.PlainKept.{but_leaf_known}
 use Rattle.sm_standing.proofs.UndoneButLeaf.{but_leaf_opened}
@@ -24,7 +27,7 @@ use Rattle.sm_ready.proofs.EntryKinds.{image_not_folding}
 use Rattle.sm_ready.specs.Cleaned.{HasFewRemovals}
 use Rattle.sm_ready.specs.Frames.{HasCommits}
 use Rattle.sm_ready.specs.Does.{store_shape}
-use Rattle.sm_ready.specs.Known.{known, shape_in}
+use Rattle.sm_ready.specs.Known.{is_shown, known, shape_in}
 use Rattle.sm_ready.specs.Orderly.{IsOrderly}
 use Rattle.sm_ready.specs.Ready.{HasNoStrayLog, IsReady}
 use Rattle.sm_ready.specs.Repairs.{IsAtRest, IsSame, content_of}
@@ -35,6 +38,9 @@ use Rattle.sm_ready.proofs.AgainLaws.{stored_as}
 use Rattle.sm_ready.proofs.CleanLaws.{few_from}
 use Rattle.sm_ready.proofs.Orders.{named_row}
 use Rattle.sm_ready.proofs.RowLaws.{image_named}
+use Rattle.sm_ready.proofs.SameLogs.{same_logs_then}
+use Rattle.sm_ready.proofs.ShapeLaws.{standing_shown}
+use Rattle.sm_ready.proofs.StrayLaws.{shown_stands}
 use Rattle.sm_recover.specs.Linking.{IsLinkBegun, LinkedBy, LinksRest}
 use Rattle.sm_checks.specs.Links.{IsLinkRight}
 use Rattle.sm_checks.specs.Loaded.{stored_undone}
@@ -48,12 +54,16 @@ use Rattle.sm_recover.proofs.UndoLaws.{held_same}
 use Rattle.sm_recover.proofs.UndoneLaws.{undone_checked}
 use Rattle.sm_recover.proofs.UnfoldLaws.{undoable_unfolded}
 
+-- each log is that of a visible image where the images are the same
+pub no_stray_as : (m n : Memory) → HasNoStrayLog (known m) → n.tree ≡ m.tree → n.logs ≡ m.logs → HasNoStrayLog (known n)
+no_stray_as m n none tree logs l i = ap (λ t. is_shown t.rows l.disk) tree ∙ none l (subst (In l) logs i)
+
 -- behind the links
 pub same_behind : {S : Type 0} {g : Ghosts S} {d e : S} {n : Memory} {v : VolumeTable} {image : ℕ → List ℕ} → g.site e ≡ g.site d → LinksRest g d e n → IsSame (store_content g e) (content_in (g.site e) v image)
     → IsSame (store_content g d) (content_in (g.site d) v image)
 same_behind {g = g} {d} {e} {n} {v} {image} site rest same =
     let w = subst (λ z. IsSame (store_content g e) (content_in z v image)) site same in
-    record { kept = w.kept; same_disks = w.same_disks ∙ rest.same_disks }
+    record { table = w.table; kept = w.kept; same_disks = w.same_disks ∙ rest.same_disks; same_logs = same_logs_then rest.same_logs w.same_logs }
 
 -- a: in front of the checks; b: behind them; d: once the first changes are made
 module _ {S : Type 0} {g : Ghosts S} {a b d : S} (r : OnlyReads g a b) (site : g.site d ≡ g.site b) (table : table_alone (g.table d) ≡ undone (uncopied (table_alone (g.table b)))) (c : IsEndableStore g a) where
@@ -122,7 +132,8 @@ module _ {S : Type 0} {g : Ghosts S} {a b d : S} (r : OnlyReads g a b) (site : g
         → IsSame (store_content g a) (content_in (g.site a) v image)
     link_same {v} {image} sound well left =
         let w = subst (λ z. IsSame (store_content g d) (content_in z v image)) same_site left in
-        record { kept = w.kept; same_disks = w.same_disks ∙ (same_first sound well).same_disks }
+        let first = same_first sound well in
+        record { table = w.table; kept = w.kept; same_disks = w.same_disks ∙ first.same_disks; same_logs = same_logs_then first.same_logs w.same_logs }
 
   -- e: once the children are linked
   module _ {e : S} (site_then : g.site e ≡ g.site d) (ended : table_alone (g.table e) ≡ unfolded (table_alone (g.table d))) where
@@ -138,6 +149,13 @@ module _ {S : Type 0} {g : Ghosts S} {a b d : S} (r : OnlyReads g a b) (site : g
     -- memory is at rest beside it
     pub start : (n : Memory) → IsOrderlyStore g e n → LinksRest g d e n → IsAtEase n → IsAtRest (stored g e) (known n)
     start n orderly rest ease = record { orderly = orderly; ready = rest.ready; settled = rest.settled; idle = ease.idle }
+
+    -- each log is that of a visible image still
+    pub none_stray : (m n : Memory) → IsOrderly (g.site a) (undone (unfolded t)) (known m) → IsOrderlyStore g e n → n.logs ≡ m.logs → HasNoStrayLog (known m) → HasNoStrayLog (known n)
+    none_stray m n before orderly logs none l i =
+        let stands = shown_stands (g.site a) (undone (unfolded t)) (known m) l.disk before (none l (subst (In l) logs i)) in
+        let w = is_some-parts (standing_volume (table_alone (g.table e)) l.disk) (ap (λ u. is_some (standing_volume u l.disk)) table_behind ∙ stands) in
+        standing_shown (g.site e) (table_alone (g.table e)) (known n) l.disk w.0 orderly w.1
 
     -- and the shape that an opening is to make of it is the one that it is to make of what stood first
     pub opened_behind : (m n : Memory) → IsSoundButLeaf (store_content g a) → IsSettled (g.area a) → IsOrderly (g.site a) (undone (unfolded t)) (known m) → IsReady (g.site a) (undone (unfolded t)) (g.area a) (known m) → IsAtEase m

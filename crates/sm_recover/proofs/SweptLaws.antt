@@ -27,6 +27,7 @@ use Rattle.sm_ready.proofs.NewVolumeLaws.{removed_shorter}
 use Rattle.sm_ready.proofs.Orders.{none_making}
 use Rattle.sm_ready.proofs.RemoveLaws.{none_folding}
 use Rattle.sm_ready.proofs.RowLaws.{found_in}
+use Rattle.sm_ready.proofs.SameLogs.{read_of}
 use Rattle.sm_ready.proofs.StateLaws.{law_shape}
 use Rattle.sm_ready.specs.Stores.{content_now}
 
@@ -135,5 +136,5 @@ module _ (x : Stored) (m : Known) (rest : IsAtRest x m) where
       detached z k attached idle ∙ sym (law_shape z.site z.table z.area k old no_stray r.orderly r.ready) ∙ ap (λ y. shape (content_of y)) is
       ∙ shape_same (content_of (swept x)) (reads z.area) (ap (λ y. disks (content_of y)) (sym is) ∙ then.same_disks rest ∙ sym (again.same_disks rest))
       (λ n. ap (λ y. image_of (content_of y) n) (sym is) ∙ then.same_images rest n ∙ sym (again.same_images rest n))
-      (λ u. ap (λ y. log_at (content_of y) u) (sym is) ∙ r.ready.logs u ∙ ap (log_of u) then.same_logs ∙ sym ((again.rest rest).ready.logs u))
+      (λ u. ap (λ y. log_at (content_of y) u) (sym is) ∙ read_of (content_of z) k.logs r.ready.logs u ∙ ap (log_of u) then.same_logs ∙ sym (read_of (content_of (swept x)) m.logs (again.rest rest).ready.logs u))
       ∙ sym opened_swept

@@ -13,15 +13,17 @@ use Rattle.vg_meta.specs.declared.changes.Change.TheVariants.{Cut, Mark, Remove}
 use Rattle.vg_meta.specs.declared.changes.Tag.TheVariants.{Hidden}
 use Rattle.vg_volumes.specs.Sites.{Site}
 use Rattle.vg_volumes.specs.Stored.{Stored}
+use Rattle.sm_standing.specs.Contents.{Content}
 use Rattle.sm_standing.specs.Entries.{folding, head, image_with, is_there, making, of_row}
-use Rattle.sm_standing.specs.Keeping.{HasNoEmptySlot}
+use Rattle.sm_standing.specs.Keeping.{HasNoEmptySlot, IsKept}
 use Rattle.sm_standing.specs.Opened.{applied_all, base_changes, changes_back, is_longer, new_count, undo_changes, undone, wanted}
 use Rattle.sm_standing.specs.PlainSound.{SimpleSound}
+use Rattle.sm_standing.specs.Standing.{disks}
 use Rattle.sm_standing.proofs.PlainDisks.{no_making, simple_folding}
 use Rattle.sm_standing.proofs.PlainKept.{plain_simple}
 use Rattle.sm_standing.proofs.UndoneButLeaf.{undoing_disks, undoing_kept}
 use Rattle.sm_ready.specs.Cleaned.{HasFewRemovals}
-use Rattle.sm_ready.specs.Repairs.{IsSame, content_of}
+use Rattle.sm_ready.specs.Repairs.{content_of}
 use Rattle.sm_ready.specs.Stores.{content_in}
 use Rattle.sm_recover.specs.Repairs.{IsLeftOf, IsUndoable}
 use Rattle.sm_recover.specs.Steps.{IsPartOf}
@@ -107,8 +109,12 @@ few_behind {s} {t} v c few =
 
 -- ---- what is left is kept, and has the same disks
 
+pub record IsKeptAs (was now : Content) : Type 0 where
+  pub kept : IsKept now
+  pub same_disks : disks now ≡ disks was
+
 pub left_same : (x : Stored) (v : VolumeTable) (image : ℕ → List ℕ) → IsTable x.site.count x.table → IsLeftOf x (IsPartOf x.table (undo_changes x.table)) v image → IsSettled x.area → SimpleSound (content_of x)
-    → HasNoEmptySlot (content_of x) → IsSame (content_of x) (content_in x.site v image)
+    → HasNoEmptySlot (content_of x) → IsKeptAs (content_of x) (content_in x.site v image)
 left_same x v image table left settled s holding =
     let g = x.site.geometry.in_range in
     record {

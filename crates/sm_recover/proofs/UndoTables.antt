@@ -1,5 +1,6 @@
 -- That the changes which undo a fork or an enlargement are allowed, each in its turn.
 use Rattle.std.proofs.Common.{◌≡◌, ◌≢◌, ◌⊎◌, inl, inr, ⊎_elim, ℕ, ◌≤◌, Bool, true, false, cond, List, [], ◌∷◌, ◌++◌, length, filter, Option, Some, None, is_some, refl, sym, ap, ◌∙◌, subst, arith}
+use Rattle.std.specs.List.{AllByRecursion}
 use Rattle.std.proofs.lemmas.Bool.{ltb-true, true≢false}
 use Rattle.std.proofs.lemmas.Option.{none-some}
 use Rattle.common_laws.specs.Lists.{In}
@@ -25,7 +26,7 @@ use Rattle.sm_ready.specs.Runs.{AllMay}
 use Rattle.sm_recover.specs.Repairs.{IsEndable, IsUndoable}
 use Rattle.sm_recover.specs.Steps.{changes_of_base, is_marked}
 use Rattle.sm_recover.proofs.BackLaws.{HasBase, IsGone, May, give_back, remove_one, remove_where, then_may}
-use Rattle.sm_recover.proofs.CountLaws.{IsSmall, may_join, may_one, names_counted, small_next}
+use Rattle.sm_recover.proofs.CountLaws.{IsLean, IsSmall, may_join, may_one, names_counted, small_all, small_next}
 use Rattle.sm_checks.proofs.EntryLaws.{IsFork, IsFound, IsStaged, base_found, base_made, base_twin, disk_base, disk_twin, enlarged_found, fork_found, made_parts}
 
 pub staged : {s : Site} {t : VolumeTable} → IsUndoable s t → IsStaged s t
@@ -200,6 +201,14 @@ module _ (count : ℕ) (extents : count ≤ extent_limit) {t : VolumeTable} {u :
           may_join count t (Cut (Vhd u) e ∷ []) (Remove (Inflate u e) ∷ []) (may_one (Cut (Vhd u) e) extents small allowed tt)
           (removed (applied t (Cut (Vhd u) e)) (small_next (Cut (Vhd u) e) small allowed tt) (changes.others (Inflate u e) (λ is. let x = is in cc) ∙ entry.1))
 
+  -- and what is left is small enough
+  pub enlargement_small : IsSmall count (applied_all t (changes_back t (Inflate u e)))
+  enlargement_small = small_all t (changes_back t (Inflate u e)) small enlargement_back (lean (of_row (is_longer e) (rows t (Vhd u))))
+    where
+      lean : (b : Bool) → AllByRecursion IsLean (wanted b (Cut (Vhd u) e) ++ Remove (Inflate u e) ∷ [])
+      lean true = (tt, (tt, tt))
+      lean false = (tt, tt)
+
 -- ---- what is known of the table
 
 -- it is small enough
@@ -232,6 +241,7 @@ pub undoable_small : {s : Site} {t : VolumeTable} → IsUndoable s t → IsSmall
 undoable_small {s} {t} c = record {
   table = c.table;
   few_images = c.few_images;
+  few_logs = c.few_logs;
   few_entries =
       let each = λ (r : Row) (i : In r t.volumes). simple_entry r.name (all-In (λ (x : Row). is_simple x ≡ true) t.volumes r c.simple i) in
       omega (arith, names_counted t.volumes, two_entries t.volumes each, one_at_most (making t) c.one_entry);

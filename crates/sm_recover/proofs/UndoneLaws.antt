@@ -20,9 +20,9 @@ use Rattle.sm_standing.proofs.PlainDisks.{all-In}
 use Rattle.sm_standing.proofs.PlainKept.{all-of, simple_plain_name}
 use Rattle.sm_standing.proofs.UndoneLaws.{images_undone, undone_is_table, undone_plain}
 use Rattle.sm_ready.proofs.RowLaws.{found_in}
-use Rattle.sm_recover.specs.Repairs.{IsChecked, IsUndoable}
+use Rattle.sm_recover.specs.Repairs.{HasFewLogs, IsChecked, IsUndoable}
 use Rattle.sm_checks.proofs.EntryLaws.{IsFork, base_found, changes_none, changes_some, enlarged_found, fork_found, undone_applied}
-use Rattle.sm_recover.proofs.UndoTables.{IsDropped, IsTakenBack, back_image, none_back, some_back, staged, undoable_small}
+use Rattle.sm_recover.proofs.UndoTables.{IsDropped, IsTakenBack, back_image, enlargement_small, none_back, some_back, staged, undoable_small}
 use Rattle.sm_checks.proofs.TableLaws.{records_short, shortened_undone}
 
 pub decide : (a b : Name) → (a ≡ b) ⊎ (a ≢ b)
@@ -139,6 +139,7 @@ module _ {s : Site} {t : VolumeTable} (c : IsUndoable s t) where
           let not_entry : r.name ≢ Clone d b w = λ is. none-some r (sym k.entry_gone ∙ ap (rows (undone t)) (sym is) ∙ at) in
           plain_of (Clone d b w) fork.entry r (row_listed t r.name r (sym (k.others r.name not_twin not_entry) ∙ at)) not_entry);
       few_images = k.small.few_images;
+      few_logs = k.small.few_logs;
       record_volume = ap (λ o. length (extents_of o)) (k.others Mgt (λ e. let x = e in cc) (λ e. let x = e in cc)) ∙ c.record_volume;
     }
     fork_checked (Some from) there = let k = taken from there in record {
@@ -146,15 +147,17 @@ module _ {s : Site} {t : VolumeTable} (c : IsUndoable s t) where
       few_extents = c.few_extents;
       plain = all-of (λ r. is_plain r ≡ true) (undone t).volumes (λ r i. ⊎_elim (λ is. ap is_plain is ∙ back_plain from) (λ o. plain_of (Clone d b w) fork.entry r o.there o.not_entry) (taken_from from there r i));
       few_images = k.small.few_images;
+      few_logs = k.small.few_logs;
       record_volume = ap (λ o. length (extents_of o)) (k.others Mgt (λ e. let x = e in cc) (λ e. let x = e in cc) (mgt_other (base_image from there)) (mgt_other (back_image from d)) (λ e. let x = e in cc)) ∙ c.record_volume;
     }
 
-  enlarged_checked : (u : List ℕ) (e : ℕ) → IsBeingEnlarged t u e → IsChecked s (undone t)
-  enlarged_checked u e w = record {
+  enlarged_checked : (u : List ℕ) (e : ℕ) → head (making t) ≡ Some (Inflate u e) → IsBeingEnlarged t u e → IsChecked s (undone t)
+  enlarged_checked u e found w = record {
     table = undone_is_table t u e w s.count c.table;
     few_extents = c.few_extents;
     plain = undone_plain t u e w c.simple;
     few_images = subst (λ n. n ≤ image_limit) (sym (images_undone t u e w)) c.few_images;
+    few_logs = subst HasFewLogs (sym (undone_by t (Inflate u e) found)) (enlargement_small s.count c.few_extents w (undoable_small c)).few_logs;
     record_volume = ap (λ o. length (extents_of o)) (ap (λ x. rows x Mgt) (sym (shortened_undone t u e w.entry)) ∙ records_short (staged c)) ∙ c.record_volume;
   }
 
@@ -165,6 +168,7 @@ module _ {s : Site} {t : VolumeTable} (c : IsUndoable s t) where
     few_extents = c.few_extents;
     plain = all-of (λ r. is_plain r ≡ true) t.volumes (plain_none (nothing (making t) none));
     few_images = c.few_images;
+    few_logs = c.few_logs;
     record_volume = c.record_volume;
   })
     where
@@ -186,7 +190,7 @@ module _ {s : Site} {t : VolumeTable} (c : IsUndoable s t) where
     where
       by : (o : Option Name) → head (making t) ≡ o → IsChecked s (undone t)
       by None none = nothing_checked none
-      by (Some (Inflate u e)) found = enlarged_checked u e (enlarged_found u e (staged c) found)
+      by (Some (Inflate u e)) found = enlarged_checked u e found (enlarged_found u e (staged c) found)
       by (Some (Clone d b w)) found = fork_checked d b w found (image_with t b) refl
       by (Some Mgt) found = absurd (not_making Mgt found refl)
       by (Some (Vhd u)) found = absurd (not_making (Vhd u) found refl)

@@ -8,7 +8,7 @@ use Rattle.std.proofs.lemmas.Option.{none-some}
 use Rattle.common_laws.specs.Lists.{In}
 use Rattle.common_laws.proofs.Booleans.{not_false}
 use Rattle.common_laws.proofs.Lists.{In-filter, In-map_at, filter-In}
-use Rattle.sm_base.specs.Kinds.{is_image, is_entry}
+use Rattle.sm_base.specs.Kinds.{is_image, is_entry, is_log}
 use Rattle.sm_base.specs.declared.names.Name.{Name}
 use Rattle.sm_base.specs.declared.names.Name.TheVariants.{Mgt, Vhd, Raw, Old, Cbt, Clone, Inflate, Coalesce, Relink, Leaf}
 use Rattle.std.specs.Str.{bytes_eq}
@@ -291,6 +291,7 @@ undoable_unfolded {s} {t} c = by (head (folding t)) refl
       one_entry = c.one_entry;
       at_stage = c.at_stage;
       few_images = c.few_images;
+      few_logs = c.few_logs;
       record_volume = c.record_volume;
     })
       where
@@ -312,5 +313,6 @@ undoable_unfolded {s} {t} c = by (head (folding t)) refl
           one_entry = ap second (making_same t e f) ∙ c.one_entry;
           at_stage = λ r i. stage_still t e f s c.table r.name (simple r i) (c.at_stage r (In-without e r t.volumes i));
           few_images = omega (arith, fewer_left (λ (r : Row). is_image r.name) e t.volumes, c.few_images);
+          few_logs = omega (arith, fewer_left (λ (r : Row). is_log r.name) e t.volumes, c.few_logs);
           record_volume = ap (λ o. length (extents_of o)) (still t e f Mgt refl) ∙ c.record_volume;
         })

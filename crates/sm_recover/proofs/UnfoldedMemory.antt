@@ -1,5 +1,5 @@
 -- Memory beside the table without the entry of a copy or of a link: the images are read as they are with it.
-use Rattle.std.proofs.Common.{◌≡◌, ℕ, true, false, List, [], ◌∷◌, length, map, Option, Some, None, refl, sym, ap, ap₂, ◌∙◌, subst}
+use Rattle.std.proofs.Common.{◌≡◌, ⊎_elim, ℕ, true, false, List, [], ◌∷◌, length, map, Option, Some, None, is_some, refl, sym, ap, ap₂, ◌∙◌, subst}
 use Rattle.std.specs.Prelude.{option_map}
 use Rattle.std.specs.List.{filter_map, cons_option}
 use Rattle.std.proofs.lemmas.Bool.{true≢false}
@@ -8,18 +8,23 @@ use Rattle.common_laws.proofs.Lists.{In-map, In-map_at}
 use Rattle.sm_base.specs.Kinds.{is_image}
 use Rattle.sm_base.specs.declared.names.Name.{Name}
 use Rattle.sm_base.specs.declared.names.Name.TheVariants.{Mgt, Vhd, Raw, Old, Cbt, Clone, Inflate, Coalesce, Relink, Leaf}
+use Rattle.vg_meta.specs.Changes.{raised}
 use Rattle.vg_meta.specs.Tables.{Row, VolumeTable, rows}
 use Rattle.vg_volumes.specs.Sites.{Site}
 use Rattle.vg_volumes.specs.declared.stores.Store.{Ghosts}
+use Rattle.sm_record.specs.declared.records.Reading.TheVariants.{Free}
 use Rattle.sm_record.specs.declared.records.Record.{Record}
 use Rattle.sm_mgt.specs.Places.{place_count}
 use Rattle.sm_standing.specs.Checks.{PassesButLeaf}
 use Rattle.sm_standing.specs.Entries.{folding, head, image_with, is_folding, making}
 use Rattle.sm_standing.specs.Outlines.{Outline}
+use Rattle.sm_standing.specs.Opened.{undone}
+use Rattle.sm_standing.specs.Standing.{standing_volume}
 use Rattle.sm_standing.specs.Unfolded.{unfolded}
 use Rattle.sm_standing.proofs.Orders.{In-filter_map}
 use Rattle.sm_standing.proofs.UnfoldedLaws.{In-bare}
-use Rattle.sm_standing.proofs.UnfoldedButLeaf.{unfolded_but_leaf}
+use Rattle.sm_standing.proofs.UnfoldedButLeaf.{fold_cases, fold_or_not, unfolded_but_leaf, unfolded_is as without_is, unfolded_none as without_none}
+use Rattle.sm_standing.proofs.UnfoldedChecks.{standing_bare}
 use Rattle.vhd_chain.specs.Trees.{tree_row, without as without_row}
 use Rattle.vhd_chain.specs.declared.rows.TreeRow.{TreeRow}
 use Rattle.sm_ready.proofs.EntryKinds.{image_not_folding, image_not_making}
@@ -34,6 +39,7 @@ use Rattle.sm_recover.proofs.ForkedMemory.{row_moved}
 use Rattle.sm_checks.proofs.LoadedLaws.{among_of, named_data, none_among, read_from}
 use Rattle.sm_recover.proofs.MemoryLaws.{beside}
 use Rattle.sm_recover.proofs.OpenedWell.{IsBeside}
+use Rattle.sm_recover.proofs.StandingLaws.{stands_then}
 use Rattle.sm_checks.proofs.TableLaws.{filtered_without, short_row}
 use Rattle.sm_recover.proofs.UnfoldLaws.{folding_found, image_same, making_same, still, undoable_unfolded, unfolded_is, unfolded_none}
 
@@ -62,9 +68,13 @@ bare {s} {t} c = by (head (folding t)) refl
           given = λ f nothing. filtered_without f e t.volumes (λ r is. nothing r (ap is_folding is ∙ h.folds));
         })
 
-filtered_map : {B : Type 0} (f : Row → Option B) (change : Row → Row) (rs : List Row) → filter_map f (map change rs) ≡ filter_map (λ r. f (change r)) rs
+pub filtered_map : {B : Type 0} (f : Row → Option B) (change : Row → Row) (rs : List Row) → filter_map f (map change rs) ≡ filter_map (λ r. f (change r)) rs
 filtered_map f change [] = refl
 filtered_map f change (r ∷ rs) = ap (cons_option (f (change r))) (filtered_map f change rs)
+
+-- an outline with this table alone
+abbrev alone : VolumeTable → Outline
+alone t = record { extent = 0; block = 0; entries = 0; table = t; links = λ n. None; readings = λ k. Free }
 
 -- a row of no image is none of memory
 no_link : (t : VolumeTable) (xs : List TreeRow) → AreRowsOf (read_volumes t) xs → (n : Name) → is_folding n ≡ true → link_in (tree_row xs n) ≡ None
@@ -141,3 +151,12 @@ module _ {S : Type 0} (g : Ghosts S) (store : S) (xs : List TreeRow) (places : L
   -- the volume of records is the same
   pub records_bare : rows u Mgt ≡ rows t Mgt
   records_bare = b.row_as Mgt refl
+
+  -- a UUID that is a disk is one at last
+  bare_stands : (v : List ℕ) → standing_volume u v ≡ standing_volume t v
+  bare_stands v = ⊎_elim
+      (λ none. ap (λ x. standing_volume x v) (without_none t none))
+      (λ h. ap (λ x. standing_volume x v) (without_is t h.0 h.2) ∙ standing_bare (alone t) (λ n folds. refl) h.0 h.1 (raised t.sequence) h.2 v) (fold_or_not t (fold_cases t c.known c.one_folding))
+
+  pub stands_bare : (v : List ℕ) → is_some (standing_volume t v) ≡ true → is_some (standing_volume (undone u) v) ≡ true
+  stands_bare v stands = stands_then g store xs places k are_bare each_bare long pass_bare v (ap is_some (bare_stands v) ∙ stands)

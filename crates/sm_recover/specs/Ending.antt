@@ -4,19 +4,17 @@ use Rattle.std.specs.Prelude.{◌≡◌, ℕ, ◌+◌, ◌≤◌, true, false, L
 use Rattle.sm_base.specs.Names.{IsName}
 use Rattle.sm_base.specs.declared.names.Name.{Name}
 use Rattle.sm_base.specs.declared.names.Name.TheVariants.{Mgt, Vhd, Raw, Old, Cbt, Clone, Inflate, Coalesce, Relink, Leaf}
-use Rattle.vg_meta.specs.Roomy.{table_alone}
 use Rattle.vg_meta.specs.Tables.{VolumeTable}
 use Rattle.vg_meta.specs.declared.changes.Change.{Change}
-use Rattle.vg_volumes.specs.declared.stores.Store.{Ghosts}
 use Rattle.vg_meta.specs.declared.changes.Change.TheVariants.{Mark, Rename}
 use Rattle.vg_meta.specs.declared.changes.Tag.TheVariants.{Hidden}
+use Rattle.sm_standing.specs.Dropped.{drop_changes, dropped}
 use Rattle.sm_standing.specs.Entries.{folding, head, is_leaf_renamed, making}
 use Rattle.sm_standing.specs.Opened.{applied_all, end_changes, ended, leaf_changes, leaf_gone, new_count, parent_changes, undo_changes, wanted}
 use Rattle.sm_standing.specs.Unfolded.{unfolded}
 use Rattle.vhd_chain.specs.Trees.{tree_row, without}
 use Rattle.vhd_chain.specs.declared.rows.TreeRow.{TreeRow}
 use Rattle.sm_recover.specs.Backs.{base_back}
-use Rattle.sm_recover.specs.Repairs.{IsEndable}
 use Rattle.sm_recover.specs.Steps.{is_marked}
 
 -- the parent takes the leaf's name, and is shown
@@ -81,16 +79,18 @@ CanEnd t (Some (Inflate image extents)) xs = Unit {0}
 CanEnd t (Some (Coalesce child parent)) xs = Unit {0}
 CanEnd t (Some (Relink child parent)) xs = Unit {0}
 
--- of a store: what is known of its table without it
-abbrev pub IsEndableThen : {S : Type 0} → Ghosts S → S → Type 0
-IsEndableThen g s = IsEndable (g.site s) (unleafed (table_alone (g.table s)))
-
 -- once a leaf's folding is ended the entry of a copy or of a link is all that is left of its group, and no more commits end what is
 -- under way than are counted: those that end an entry of that group, and those that undo a fork or an enlargement behind them
 pub record IsEndedSo (t : VolumeTable) : Type 0 where
   pub bare : unfolded (unleafed t) ≡ ended t
   pub few : length (leaf_ends t (head (folding t))) + (length (undo_changes (unleafed t)) + length (folding (unleafed t))) ≤ length (end_changes t) + length (undo_changes (ended t))
 
--- the sequence number was raised at most by one for each volume that was new, and by one for each of those commits
+-- the sequence number was raised at most by one for each volume that was new, and by one for each commit that ends or undoes what was under way
+abbrev pub HasFewMends : VolumeTable → VolumeTable → Type 0
+HasFewMends old new = new.sequence ≤ old.sequence + new_count old.volumes + (length (end_changes old) + length (undo_changes (ended old)))
+
+-- the sequence number was raised at most by one for each log of no use, and then by one for each volume that is new and for each commit that ends
+-- or undoes what is under way in the table without them
 abbrev pub HasFewEnds : VolumeTable → VolumeTable → Type 0
-HasFewEnds old new = new.sequence ≤ old.sequence + new_count old.volumes + (length (end_changes old) + length (undo_changes (ended old)))
+HasFewEnds old new = new.sequence ≤ old.sequence + length (drop_changes old)
+    + (new_count (dropped old).volumes + (length (end_changes (dropped old)) + length (undo_changes (ended (dropped old)))))

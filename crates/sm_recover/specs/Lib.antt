@@ -4,3 +4,4 @@ pub mod Steps
 pub mod Backs
 pub mod Linking
 pub mod Ending
+pub mod Tracked

@@ -12,6 +12,7 @@ use Rattle.vg_volumes.specs.Stored.{Stored}
 use Rattle.vg_volumes.specs.declared.stores.Store.{Ghosts}
 use Rattle.sm_machine.specs.Shapes.{Shape, risen}
 use Rattle.sm_standing.specs.Keeping.{IsKept}
+use Rattle.sm_standing.specs.LogChecks.{HasLogsOf}
 use Rattle.sm_standing.specs.Opened.{linked_past}
 use Rattle.sm_standing.specs.Standing.{disks}
 use Rattle.sm_standing.specs.Unfolded.{unfolded}
@@ -100,11 +101,12 @@ pub record IsLinkBegun (x : Stored) (m : Known) : Type 0 where
   pub kept : IsKept (content_of x)
   pub ready : IsReady x.site (unfolded x.table) x.area m
 
--- what is told of a store and of memory behind the last link: memory is ready, nothing is pending, and the disks are the same
+-- what is told of a store and of memory behind the last link: memory is ready, nothing is pending, and the disks and the logs are the same
 pub record LinksRest {S : Type 0} (g : Ghosts S) (old new : S) (n : Memory) : Type 0 where
   pub ready : IsReadyStore g new n
   pub settled : IsSettled (g.area new)
   pub same_disks : disks (store_content g new) ≡ disks (store_content g old)
+  pub same_logs : HasLogsOf (store_content g old) (store_content g new)
 
 -- all were linked, and the entry went
 pub record LinksAll {S : Type 0} (g : Ghosts S) (old : S) (m : Memory) (new : S) (n : Memory) : Type 0 where

@@ -1,10 +1,10 @@
 -- What the steps of an opening tell each other: what the checks leave known, and why they stopped.
-use Rattle.std.specs.Prelude.{◌≡◌, ℕ, ◌<◌, ◌≤◌, true, false, List, length, Option, Some, None}
+use Rattle.std.specs.Prelude.{◌≡◌, ℕ, ◌<◌, ◌≤◌, true, false, List, length, filter, Option, Some, None}
 use Rattle.common_laws.specs.Lists.{In}
 use Rattle.sm_base.specs.Limits.{extent_limit}
 use Rattle.sm_base.specs.declared.faults.OpenFault.{OpenFault}
 use Rattle.sm_base.specs.declared.faults.OpenFault.TheVariants as fault
-use Rattle.sm_base.specs.Kinds.{is_image}
+use Rattle.sm_base.specs.Kinds.{is_image, is_log}
 use Rattle.sm_base.specs.declared.names.Name.{Name}
 use Rattle.sm_base.specs.declared.names.Name.TheVariants.{Mgt, Vhd, Raw, Old, Cbt, Clone, Inflate, Coalesce, Relink, Leaf}
 use Rattle.sm_disk.specs.Held.{IsSettled, reads}
@@ -16,12 +16,17 @@ use Rattle.vg_meta.specs.Roomy.{table_alone}
 use Rattle.vg_volumes.specs.Sites.{Site, area_size}
 use Rattle.vg_volumes.specs.Stored.{Stored}
 use Rattle.vg_volumes.specs.declared.stores.Store.{Ghosts}
+use Rattle.sm_logs.specs.Held.{log_limit}
 use Rattle.sm_machine.specs.Shapes.{image_limit}
 use Rattle.sm_standing.specs.Checks.{images, is_lost, is_misnamed, has_uuid}
 use Rattle.sm_standing.specs.Entries.{are_past, folding, is_there, making, second}
 use Rattle.sm_standing.specs.Plain.{IsKnown, IsPlain, IsSimple}
 use Rattle.vhd_chain.specs.declared.rows.TreeRow.{TreeRow}
 use Rattle.sm_checks.specs.Links.{HasLink}
+
+-- no more volumes are logs than memory has room for
+abbrev pub HasFewLogs : VolumeTable → Type 0
+HasFewLogs t = length (filter (λ (r : Row). is_log r.name) t.volumes) ≤ log_limit
 
 -- what is known of the table in memory once the checks passed, where no fork and no enlargement is under way: new volumes may be
 -- among the others
@@ -30,6 +35,7 @@ pub record IsChecked (s : Site) (t : VolumeTable) : Type 0 where
   pub few_extents : s.count ≤ extent_limit
   pub plain : IsPlain t
   pub few_images : length (images t) ≤ image_limit
+  pub few_logs : HasFewLogs t
   pub record_volume : length (extents_of (rows t Mgt)) ≡ record_extents s.geometry.extent
 
 -- and where no leaf is being folded: beside images, new ones among them, and the volume of records at most one entry says that a disk
@@ -43,6 +49,7 @@ pub record IsEndable (s : Site) (t : VolumeTable) : Type 0 where
   pub at_stage : (r : Row) → In r t.volumes → is_lost t r ≡ false
   pub named : (r : Row) → In r t.volumes → is_misnamed t r ≡ false
   pub few_images : length (images t) ≤ image_limit
+  pub few_logs : HasFewLogs t
   pub record_volume : length (extents_of (rows t Mgt)) ≡ record_extents s.geometry.extent
 
 -- what is known of the table of a store before what is under way is ended
@@ -59,6 +66,7 @@ pub record IsUndoable (s : Site) (t : VolumeTable) : Type 0 where
   pub one_entry : second (making t) ≡ None
   pub at_stage : (r : Row) → In r t.volumes → is_lost t r ≡ false
   pub few_images : length (images t) ≤ image_limit
+  pub few_logs : HasFewLogs t
   pub record_volume : length (extents_of (rows t Mgt)) ≡ record_extents s.geometry.extent
 
 -- a table in which children of an image are being linked to its parent, and nothing else is under way

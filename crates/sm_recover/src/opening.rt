@@ -1,38 +1,31 @@
-//! All checks, one after another, and then the memory of a session: the images that stand, and room for all that may come.
+//! All checks, one after another, and then the memory of a session: the images that stand, the logs of disks, and room for all that may come.
 //! Nothing is written.
 
 ghost use Rattle.std.specs.Prelude.{◌≡◌, ◌≢◌, ◌≤◌, ◌+◌, [], None, Err, OnOk, IfOk, IfErr, IfNone, length};
-ghost use Rattle.sm_disk.specs.Held.{IsSettled};
 ghost use Rattle.common_laws.specs.Lists.{first_some};
 ghost use Rattle.sm_mgt.specs.Places.{Agrees, place_count, records_of};
 ghost use Rattle.sm_base.specs.declared.faults.OpenFault.TheVariants as fault;
-ghost use Rattle.sm_standing.specs.Checks.{first_fault};
+ghost use Rattle.sm_standing.specs.Checks.{fault_of, first_fault};
+ghost use Rattle.sm_standing.specs.Dropped.{drop_changes, dropped};
+ghost use Rattle.sm_standing.specs.LogChecks.{first_place};
+ghost use Rattle.sm_standing.specs.Outlines.{Outline};
+ghost use Rattle.vg_meta.specs.Roomy.{table_alone};
 ghost use Rattle.vg_volumes.specs.Stored.{OnlyReads};
-ghost use Rattle.sm_recover.specs.Ending.{IsEndableThen, IsEndedSo, leaf_ends, unleafed};
-ghost use Rattle.sm_checks.specs.Openable.{IsOpenableStore, IsOpeningStopped};
+ghost use Rattle.sm_machine.specs.Operations.{Idle};
+ghost use Rattle.sm_machine.specs.Shapes.{image_limit};
 ghost use Rattle.sm_ready.specs.Runs.{AllMay};
-ghost use Rattle.sm_standing.specs.Entries.{folding, head};
-ghost use Rattle.sm_ready.specs.Known.{known};
-ghost use Rattle.sm_ready.specs.Orderly.{IsOrderly};
-ghost use Rattle.sm_ready.specs.Ready.{IsReady};
 ghost use Rattle.sm_ready.specs.Sessions.{IsAtEase, HasRows, HasTreeRoom};
 ghost use Rattle.sm_ready.specs.Stores.{store_content};
-ghost use Rattle.sm_standing.specs.Checks.{fault_of};
-ghost use Rattle.sm_standing.specs.Outlines.{Outline};
-ghost use Rattle.sm_standing.specs.Keeping.{HoldsWell};
-ghost use Rattle.sm_standing.specs.Opened.{undone};
-ghost use Rattle.sm_standing.specs.Unfolded.{unfolded};
-ghost use Rattle.sm_machine.specs.Shapes.{image_limit};
 ghost use Rattle.sm_checks.specs.Faults.{HasLinks, HasPlaces, HasTable, PassImages, table_faults};
-ghost use Rattle.sm_checks.specs.Links.{IsLinkRight};
-ghost use Rattle.sm_checks.specs.Loaded.{AreRowsOf, HasEachRow, read_volumes, stored_read, stored_with};
-ghost use Rattle.vg_meta.specs.Roomy.{table_alone};
-ghost use Rattle.vhd_chain.specs.Reading.{AllAreTrue};
+ghost use Rattle.sm_checks.specs.Loaded.{AreRowsOf, HasEachRow, read_volumes, stored_read};
+ghost use Rattle.sm_checks.specs.Openable.{IsCheckStopped, IsOpenableStore};
+ghost use Rattle.sm_recover.specs.Stores.{IsOpenedOn, IsOpeningStopped};
 
+use crate::dropping::may_drop;
 use crate::memory::{give_back, take_name};
+use crate::tracked::checked_logs;
 use sm_base::{IMAGE_LIMIT, NoMemory, OpenFault, Place};
 use sm_checks::{disk_fault, link_fault, load, table_fault, tree_fault};
-use sm_logs::Logs;
 use sm_mgt::Mgt;
 use sm_operation::Operation;
 use sm_ready::Memory;
@@ -45,44 +38,29 @@ use vhd_chain::Tree;
 const MOST_ROWS: usize = 1_005;
 
 /// Checks what stands in a store, takes the memory for all rows that its table and its tree may come to have, and answers
-/// what a session keeps in memory: what stands beside the table without the entries that it may have, as if what they say were
-/// ended or undone; of a link the child stands over its parent still, and both are hidden and of one size. New volumes are no rows of the
-/// tree, and records of no disk are in their places.
+/// what a session keeps in memory: what stands beside the table without logs of no use and without the entries that it may have, as if
+/// what they say were ended or undone; of a link the child stands over its parent still, and both are hidden and of one size. New volumes
+/// are no rows of the tree, and records of no disk are in their places.
 pub fn checked_with_room<S: Store>(alloc: Global, store: &mut S) -> Result<Memory, OpenFault>
     ensures reads { OnlyReads S.Store store.old store.new }
+    ensures droppable { OnOk result (AllMay (S.site store.old).count (table_alone (S.table store.old)) (drop_changes (table_alone (S.table store.old)))) }
     ensures openable { OnOk result (IsOpenableStore S.Store store.old) }
-    ensures checked { OnOk result (IsEndableThen S.Store store.old) }
-    ensures allowed { OnOk result (AllMay (S.site store.old).count (table_alone (S.table store.old)) (leaf_ends (table_alone (S.table store.old)) (head (folding (table_alone (S.table store.old)))))) }
-    ensures ended { OnOk result (IsEndedSo (table_alone (S.table store.old))) }
-    ensures sound { OnOk result (S.told → first_fault (store_content S.Store store.old) ≡ None) }
-    ensures orderly { IfOk result (λ m. IsOrderly (S.site store.old) (undone (unfolded (unleafed (table_alone (S.table store.old))))) (known m)) }
-    ensures ready { IfOk result (λ m. S.told → IsSettled (S.area store.old) → HoldsWell (store_content S.Store store.old)
-        → IsReady (S.site store.old) (undone (unfolded (unleafed (table_alone (S.table store.old))))) (S.area store.old) (known m)) }
-    ensures linking { IfOk result (λ m. IsLinkRight (unleafed (table_alone (S.table store.old))) m.tree.rows) }
+    ensures sound { OnOk result (S.told → first_place (store_content S.Store store.old) ≡ None) }
+    ensures opened { IfOk result (IsOpenedOn S.Store store.old (dropped (table_alone (S.table store.old)))) }
     ensures at_ease { IfOk result IsAtEase }
-    ensures untracked { IfOk result (λ m. m.logs ≡ []) }
     ensures tree_room { IfOk result HasTreeRoom }
     ensures attachment_room { IfOk result (λ m. image_limit ≤ m.attached.room) }
-    ensures true_images { IfOk result (λ m. S.told → IsSettled (S.area store.old) → AllAreTrue (stored_with S.Store store.old (undone (unfolded (unleafed (table_alone (S.table store.old)))))) m.tree.rows) }
     ensures calm { result ≢ Err fault.Device → S.faults store.new ≡ S.faults store.old }
     ensures cause { IfErr result (IsOpeningStopped S.told (store_content S.Store store.old) (S.faults store.old) (S.faults store.new)) }
     ensures room { OnOk result (HasRows (S.table store.new)) }
 {
     let (mut tree, records) = checked(alloc, store)?;
-    let Ok(()) = make_room(store) else {
-        return Err(OpenFault::NoMemory);
-    };
-    let Ok(attached) = Attachments::new(alloc, IMAGE_LIMIT) else {
-        return Err(OpenFault::NoMemory);
-    };
-    let Ok(operation) = Operation::new(alloc) else {
-        return Err(OpenFault::NoMemory);
-    };
-    let Ok(logs) = Logs::new(alloc) else {
-        return Err(OpenFault::NoMemory);
-    };
     take_name(&mut tree, store.table());
     give_back(&mut tree, store.table());
+    let logs = checked_logs(alloc, store, &tree)?;
+    let Ok((attached, operation)) = room_of(alloc, store) else {
+        return Err(OpenFault::NoMemory);
+    };
     Ok(Memory {
         tree,
         records,
@@ -90,6 +68,26 @@ pub fn checked_with_room<S: Store>(alloc: Global, store: &mut S) -> Result<Memor
         attached,
         operation,
     })
+}
+
+/// Takes the memory for what a session keeps beside the images, the records and the logs, and makes room for all rows. That a commit can
+/// remove the first log of no use is seen here too, while nothing is written; each one behind it makes the table's text shorter.
+fn room_of<S: Store>(alloc: Global, store: &mut S) -> Result<(Attachments, Operation), NoMemory>
+    ensures reads { OnlyReads S.Store store.old store.new }
+    ensures calm { S.faults store.new ≡ S.faults store.old }
+    ensures unattached { IfOk result (λ p. (p.0.disks ≡ []) × (p.0.counts ≡ [])) }
+    ensures attachment_room { IfOk result (λ p. image_limit ≤ p.0.room) }
+    ensures idle { IfOk result (λ p. p.1 ≡ Idle) }
+    ensures droppable { OnOk result (AllMay (S.site store.old).count (table_alone (S.table store.old)) (drop_changes (table_alone (S.table store.old)))) }
+    ensures room { OnOk result (HasRows (S.table store.new)) }
+{
+    make_room(store)?;
+    let attached = Attachments::new(alloc, IMAGE_LIMIT)?;
+    let operation = Operation::new(alloc)?;
+    if !may_drop(store) {
+        return Err(NoMemory);
+    }
+    Ok((attached, operation))
 }
 
 /// Checks what stands in a store, and answers the images and the places of the records.
@@ -104,7 +102,7 @@ fn checked<S: Store>(alloc: Global, store: &mut S) -> Result<(Tree, Mgt), OpenFa
     ensures room { IfOk result (λ p. image_limit ≤ length p.0.rows + p.0.spare) }
     ensures long { IfOk result (λ p. length p.1 ≡ place_count) }
     ensures calm { result ≢ Err fault.Device → S.faults store.new ≡ S.faults store.old }
-    ensures cause { IfErr result (IsOpeningStopped S.told (store_content S.Store store.old) (S.faults store.old) (S.faults store.new)) }
+    ensures cause { IfErr result (IsCheckStopped S.told (store_content S.Store store.old) (S.faults store.old) (S.faults store.new)) }
 {
     let tree = checked_images(alloc, store)?;
     let mgt = Mgt::load(alloc, store)?;
@@ -124,7 +122,7 @@ fn checked_images<S: Store>(alloc: Global, store: &mut S) -> Result<Tree, OpenFa
     ensures each { IfOk result (λ tree. HasEachRow S.told (stored_read S.Store store.old) (read_volumes (table_alone (S.table store.old))) tree.rows) }
     ensures room { IfOk result (λ tree. image_limit ≤ length tree.rows + tree.spare) }
     ensures calm { result ≢ Err fault.Device → S.faults store.new ≡ S.faults store.old }
-    ensures cause { IfErr result (IsOpeningStopped S.told (store_content S.Store store.old) (S.faults store.old) (S.faults store.new)) }
+    ensures cause { IfErr result (IsCheckStopped S.told (store_content S.Store store.old) (S.faults store.old) (S.faults store.new)) }
 {
     if let Some(place) = first_by_table(store) {
         return Err(OpenFault::Damaged { place });

@@ -9,7 +9,7 @@ use Rattle.sm_standing.specs.Standing.{disks}
 use Rattle.sm_ready.specs.Known.{entry_of, known}
 use Rattle.sm_ready.specs.Ready.{IsReady}
 use Rattle.sm_ready.specs.Stores.{content_now}
-use Rattle.sm_recover.proofs.LinkingLaws.{end_next, end_shapes, links_stop}
+use Rattle.sm_recover.proofs.LinkingLaws.{end_keeps, end_next, end_shapes, ended_logs, links_stop}
 use Rattle.sm_recover.proofs.linking.link_all.Goals as goal
 
 pub returns-in_err-link_children-clause-few : goal.returns-in_err-link_children-clause-few
@@ -36,7 +36,8 @@ returns-in_err-finish-clause-few_left g c = λ told t image leaves. omega (arith
 pub returns-in_err-finish-clause-crash : goal.returns-in_err-finish-clause-crash
 returns-in_err-finish-clause-crash g c = λ told t image leaves settled ready.
     let some = c.in_ok-link_children.ensures.some in
-    links_stop g.S.Store c.finish.new.memory some told (g.met.S.Store.leaves_now c.link_children.new.store told some.usable) (c.finish.ensures.done told (some.ready told ready)) settled ready leaves
+    links_stop g.S.Store c.finish.new.memory some told (g.met.S.Store.leaves_now c.link_children.new.store told some.usable) (c.finish.ensures.done told (some.ready told ready)) c.finish.ensures.logs
+    (end_keeps g.S.Store c.args.child.now some c.requires.links c.in_ok-link_children.ensures.none_left (λ e is. c.finish.ensures.left e is told t image leaves)) settled ready leaves
 
 pub returns-clause-beside : goal.returns-clause-beside
 returns-clause-beside g c = λ told. Keeps-then (c.link_children.ensures.beside told) (c.finish.ensures.step.beside told)
@@ -50,7 +51,8 @@ returns-clause-few_left g c = λ told t image leaves. omega (arith, ap (λ (t : 
 pub returns-clause-crash : goal.returns-clause-crash
 returns-clause-crash g c = λ told t image leaves settled ready.
     let some = c.in_ok-link_children.ensures.some in
-    links_stop g.S.Store c.finish.new.memory some told (g.met.S.Store.leaves_now c.link_children.new.store told some.usable) (c.finish.ensures.done told (some.ready told ready)) settled ready leaves
+    links_stop g.S.Store c.finish.new.memory some told (g.met.S.Store.leaves_now c.link_children.new.store told some.usable) (c.finish.ensures.done told (some.ready told ready)) c.finish.ensures.logs
+    (end_keeps g.S.Store c.args.child.now some c.requires.links c.in_ok-link_children.ensures.none_left (λ e is. c.finish.ensures.left e is told t image leaves)) settled ready leaves
 
 pub returns-clause-all : goal.returns-clause-all
 unfolding disks_next
@@ -79,5 +81,6 @@ returns-clause-all g c =
             ready = subst (λ z. IsReady z (table_alone (g.S.Store.table new)) (g.S.Store.area new) (known memory)) (sym e.step.site) (d.ready is);
             settled = d.settled is;
             same_disks = ap (λ z. disks (content_now z (table_alone (g.S.Store.table new)) (g.S.Store.area new))) e.step.site ∙ d.shown is ∙ some.same_disks told settled ready;
+            same_logs = ended_logs g.S.Store c.args.child.now some c.requires.links c.in_ok-link_children.ensures.none_left told ready new memory e.step.site ok.table (d.ready is) e.logs;
           };
     }

@@ -8,7 +8,7 @@ use Rattle.sm_ready.specs.Does.{store_shape}
 use Rattle.sm_ready.specs.Ready.{IsReady}
 use Rattle.sm_ready.specs.Stores.{content_now}
 use Rattle.sm_recover.specs.Linking.{LinksPast, linked_on}
-use Rattle.sm_recover.proofs.LinkingLaws.{fewer_left, links_more, links_none, links_rest, links_stop, next_link_in}
+use Rattle.sm_recover.proofs.LinkingLaws.{fewer_left, links_more, links_none, links_rest, links_stop, next_link_in, unlinked_keeps}
 use Rattle.sm_recover.proofs.linking.link_children.Goals as goal
 
 pub loop-name-init : goal.loop-name-init
@@ -60,7 +60,8 @@ loop-name-preserved g c =
 pub returns-in_err-relink_one-clause-crash : goal.returns-in_err-relink_one-clause-crash
 returns-in_err-relink_one-clause-crash g c = λ told t image leaves settled ready.
     let i = c.loop-name.invariant in
-    links_stop g.S.Store c.relink_one.new.memory i told (g.met.S.Store.leaves_now c.loop-name.store told i.usable) (c.relink_one.ensures.done told (i.ready told ready)) settled ready leaves
+    links_stop g.S.Store c.relink_one.new.memory i told (g.met.S.Store.leaves_now c.loop-name.store told i.usable) (c.relink_one.ensures.done told (i.ready told ready)) c.relink_one.ensures.logs
+    (unlinked_keeps g.S.Store c.loop-name.store c.relink_one.new.store i.orderly.table (c.relink_one.ensures.table) (g.met.S.Store.leaves_now c.relink_one.new.store told c.relink_one.ensures.unfailed t image leaves)) settled ready leaves
 
 pub returns-clause-crash : goal.returns-clause-crash
 returns-clause-crash g c = λ told t image leaves settled ready.

@@ -4,7 +4,7 @@ use Rattle.vg_meta.specs.Roomy.{table_alone}
 use Rattle.vg_volumes.proofs.StoredLaws.{reads_then}
 use Rattle.sm_standing.specs.Outlines.{outline}
 use Rattle.sm_ready.specs.Stores.{content_now}
-use Rattle.sm_checks.specs.Openable.{IsOpenable, IsOpeningStopped}
+use Rattle.sm_checks.specs.Openable.{IsOpenable, IsCheckStopped}
 use Rattle.sm_checks.proofs.OpeningLaws.{agrees_before, damaged_before, records_fit, has_table, all_pass, all_say, stopped_by, if_err}
 use Rattle.sm_checks.proofs.EntryLaws.{staged_open}
 use Rattle.sm_recover.proofs.SeenLaws.{links_now}
@@ -26,7 +26,7 @@ returns-in_err-mgt-clause-cause g c =
     let x = outline (content_now s t area) in
     let k = c.in_ok-tree.ensures in
     let is : c.from_residual-in_err-mgt.result ≡ Err c.in_err-mgt.field-0.0 = search rules in
-    if_err (IsOpeningStopped g.S.Store.told (content_now s t area) (g.S.Store.faults c.args.store.now) (g.S.Store.faults c.load.new.store))
+    if_err (IsCheckStopped g.S.Store.told (content_now s t area) (g.S.Store.faults c.args.store.now) (g.S.Store.faults c.load.new.store))
     c.from_residual-in_err-mgt.result c.in_err-mgt.field-0.0 is
     (stopped_by g.S.Store.told area _ _ _ c.in_err-mgt.field-0.0 k.checked k.tables
     (λ told. k.passed x (has_table s t (reads area)) (links_now g.S.Store c.args.store.now (staged_open k.checked) c.in_ok-tree.tree.rows k.each k.rows told))

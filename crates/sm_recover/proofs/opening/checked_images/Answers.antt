@@ -3,7 +3,7 @@ use Rattle.sm_disk.specs.Held.{reads}
 use Rattle.vg_meta.specs.Roomy.{table_alone}
 use Rattle.sm_standing.specs.Outlines.{outline}
 use Rattle.sm_ready.specs.Stores.{content_now}
-use Rattle.sm_checks.specs.Openable.{IsOpeningStopped}
+use Rattle.sm_checks.specs.Openable.{IsCheckStopped}
 use Rattle.sm_checks.proofs.OpeningLaws.{has_table, if_err, not_read, whole_links, whole_table, whole_trees}
 use Rattle.sm_checks.proofs.EntryLaws.{staged_open}
 use Rattle.sm_recover.proofs.SeenLaws.{all_valid, children_counted, links_now, volumes_seen}
@@ -20,7 +20,7 @@ pub returns-in_err-tree-clause-cause : goal.returns-in_err-tree-clause-cause
 returns-in_err-tree-clause-cause g c =
     let area = g.S.Store.area c.args.store.now in
     let is : c.from_residual.result ≡ Err c.in_err-tree.field-0.0 = search rules in
-    if_err (IsOpeningStopped g.S.Store.told (content_now (g.S.Store.site c.args.store.now) (table_alone (g.S.Store.table c.args.store.now)) area) (g.S.Store.faults c.args.store.now) (g.S.Store.faults c.load.new.store))
+    if_err (IsCheckStopped g.S.Store.told (content_now (g.S.Store.site c.args.store.now) (table_alone (g.S.Store.table c.args.store.now)) area) (g.S.Store.faults c.args.store.now) (g.S.Store.faults c.load.new.store))
     c.from_residual.result c.in_err-tree.field-0.0 is
     (not_read (g.S.Store.site c.args.store.now) (table_alone (g.S.Store.table c.args.store.now)) g.S.Store.told area _ _ c.in_err-tree.field-0.0 c.in_default.ensures.says c.in_err-tree.ensures.cause)
 

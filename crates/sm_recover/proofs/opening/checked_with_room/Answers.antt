@@ -1,119 +1,81 @@
-use Rattle.std.proofs.Common.{List, sym, ap, ◌∙◌, subst, subst₂, arith}
+use Rattle.std.proofs.Common.{◌≡◌, Err, refl, sym, ap, ◌∙◌, subst, rules}
 use Rattle.vg_meta.specs.Roomy.{table_alone}
 use Rattle.vg_volumes.proofs.StoredLaws.{reads_then}
-use Rattle.vhd_chain.specs.Reading.{AllAreTrue}
-use Rattle.vhd_chain.specs.declared.rows.TreeRow.{TreeRow}
-use Rattle.sm_ready.specs.Orderly.{IsOrderly}
-use Rattle.sm_ready.specs.Ready.{IsReady}
 use Rattle.sm_standing.specs.Entries.{folding, head}
-use Rattle.sm_standing.specs.Opened.{undone}
-use Rattle.sm_standing.specs.Unfolded.{unfolded}
-use Rattle.sm_log.specs.Logs.{Log}
-use Rattle.sm_machine.specs.Operations.{Idle, Op}
+use Rattle.sm_ready.specs.Stores.{store_content}
+use Rattle.sm_checks.proofs.OpeningLaws.{if_err}
 use Rattle.sm_recover.specs.Backs.{CanGiveBack, rows_back}
-use Rattle.sm_recover.specs.Ending.{CanEnd, rows_ended, unleafed}
-use Rattle.sm_checks.specs.Links.{IsLinkRight}
-use Rattle.sm_checks.specs.Loaded.{stored_with}
-use Rattle.sm_recover.proofs.CheckedMemory.{agrees_then, back_is, holding_then}
-use Rattle.sm_recover.proofs.EndedForks.{can_back}
-use Rattle.sm_recover.proofs.EndedThen.{can_take, ended_so, is_then, may_end}
-use Rattle.sm_recover.proofs.LinkedLaws.{linked_right}
-use Rattle.sm_recover.proofs.OpenedWell.{opened_with, opened_ready, opened_true}
-use Rattle.sm_recover.proofs.UnfoldLaws.{undoable_unfolded}
-use Rattle.sm_recover.proofs.UnfoldedMemory.{beside_bare}
+use Rattle.sm_recover.specs.Ending.{CanEnd, rows_ended}
+use Rattle.sm_recover.specs.Stores.{IsOpeningStopped}
+use Rattle.sm_recover.specs.Tracked.{HasPiecesOf}
+use Rattle.sm_recover.proofs.OpenedOn.{can_give, can_name, few_read, opened_on, pieces_are, rows_are}
+use Rattle.sm_recover.proofs.StoppedLaws.{all_pass, check_stopped, few_before, logs_before, pieces_before, stopped_before}
 use Rattle.sm_recover.proofs.opening.checked_with_room.Goals as goal
 
-pub returns-in_default-clause-reads : goal.returns-in_default-clause-reads
-returns-in_default-clause-reads g c = reads_then c.checked.ensures.reads c.make_room.ensures.reads
-
-pub returns-in_default-new-clause-reads : goal.returns-in_default-new-clause-reads
-returns-in_default-new-clause-reads g c = reads_then c.checked.ensures.reads c.make_room.ensures.reads
-
-pub returns-in_default-new-2-clause-reads : goal.returns-in_default-new-2-clause-reads
-returns-in_default-new-2-clause-reads g c = reads_then c.checked.ensures.reads c.make_room.ensures.reads
-
-pub returns-in_default-new-3-clause-reads : goal.returns-in_default-new-3-clause-reads
-returns-in_default-new-3-clause-reads g c = reads_then c.checked.ensures.reads c.make_room.ensures.reads
-
-pub returns-clause-reads : goal.returns-clause-reads
-returns-clause-reads g c = reads_then c.checked.ensures.reads c.make_room.ensures.reads
-
-pub returns-clause-openable : goal.returns-clause-openable
-returns-clause-openable g c = c.in_ok-tree.ensures.checked
-
-pub returns-clause-checked : goal.returns-clause-checked
-returns-clause-checked g c =
-    let k = c.in_ok-tree.ensures in
-    let th = is_then g.S.Store c.args.store.now c.in_ok-tree.tree.rows c.in_ok-tree.records k.checked k.rows k.each k.long k.passed in
-    th.checked
-
-pub returns-clause-allowed : goal.returns-clause-allowed
-returns-clause-allowed g c =
-    let k = c.in_ok-tree.ensures in
-    may_end g.S.Store c.args.store.now c.in_ok-tree.tree.rows c.in_ok-tree.records k.checked k.rows k.each k.long k.passed
-
-pub returns-clause-ended : goal.returns-clause-ended
-returns-clause-ended g c =
-    let k = c.in_ok-tree.ensures in
-    ended_so g.S.Store c.args.store.now c.in_ok-tree.tree.rows c.in_ok-tree.records k.checked k.rows k.each k.long k.passed
+pub returns-in_err-tree-clause-cause : goal.returns-in_err-tree-clause-cause
+returns-in_err-tree-clause-cause g c =
+    let is : c.from_residual.result ≡ Err c.in_err-tree.field-0.0 = search rules in
+    if_err (IsOpeningStopped g.S.Store.told (store_content g.S.Store c.args.store.now) (g.S.Store.faults c.args.store.now) (g.S.Store.faults c.checked.new.store)) c.from_residual.result c.in_err-tree.field-0.0 is
+    (check_stopped g.S.Store.told (store_content g.S.Store c.args.store.now) _ _ c.in_err-tree.field-0.0 c.in_err-tree.ensures.cause)
 
 pub take_name-requires : goal.take_name-requires
 take_name-requires g c =
     let k = c.in_ok-tree.ensures in
-    let same = ap table_alone c.table.ensures.table ∙ c.make_room.ensures.reads.stays.table ∙ c.checked.ensures.reads.stays.table in
-    subst (λ t. CanEnd t (head (folding t)) c.in_ok-tree.tree.rows) (sym same) (can_take g.S.Store c.args.store.now c.in_ok-tree.tree.rows c.in_ok-tree.records k.checked k.rows k.each k.long k.passed)
+    let same = ap table_alone c.table.ensures.table ∙ c.checked.ensures.reads.stays.table in
+    subst (λ t. CanEnd t (head (folding t)) c.in_ok-tree.tree.rows) (sym same) (can_name g.S.Store c.args.store.now c.in_ok-tree.tree.rows c.in_ok-tree.records k.checked k.rows k.each k.long k.passed)
 
 pub give_back-requires : goal.give_back-requires
 give_back-requires g c =
     let k = c.in_ok-tree.ensures in
-    let was = table_alone (g.S.Store.table c.args.store.now) in
-    let same = ap table_alone c.table.ensures.table ∙ c.make_room.ensures.reads.stays.table ∙ c.checked.ensures.reads.stays.table in
-    let same_then = ap table_alone c.table-2.ensures.table ∙ c.make_room.ensures.reads.stays.table ∙ c.checked.ensures.reads.stays.table in
+    let same = ap table_alone c.table.ensures.table ∙ c.checked.ensures.reads.stays.table in
+    let same_then = ap table_alone c.table-2.ensures.table ∙ c.checked.ensures.reads.stays.table in
     let is = c.take_name.ensures.rows ∙ ap (λ t. rows_ended t c.in_ok-tree.tree.rows) same in
-    subst (λ t. CanGiveBack t c.take_name.new.tree.rows) (sym same_then) (subst (CanGiveBack was) (sym is) (can_back g.S.Store c.args.store.now c.in_ok-tree.tree.rows c.in_ok-tree.records k.checked k.rows k.each k.long k.passed))
+    subst (λ t. CanGiveBack t c.take_name.new.tree.rows) (sym same_then)
+    (subst (CanGiveBack (table_alone (g.S.Store.table c.args.store.now))) (sym is) (can_give g.S.Store c.args.store.now c.in_ok-tree.tree.rows c.in_ok-tree.records k.checked k.rows k.each k.long k.passed))
 
-pub returns-clause-orderly : goal.returns-clause-orderly
-returns-clause-orderly g c =
+pub checked_logs-requires-clause-few : goal.checked_logs-requires-clause-few
+checked_logs-requires-clause-few g c =
     let k = c.in_ok-tree.ensures in
-    let was = table_alone (g.S.Store.table c.args.store.now) in
-    let th = is_then g.S.Store c.args.store.now c.in_ok-tree.tree.rows c.in_ok-tree.records k.checked k.rows k.each k.long k.passed in
-    let is = back_is g.S.Store c.args.store.now c.in_ok-tree.tree.rows c.in_ok-tree.records k.checked k.rows k.each k.long k.passed (ap table_alone c.table.ensures.table ∙ c.make_room.ensures.reads.stays.table ∙ c.checked.ensures.reads.stays.table) (ap table_alone c.table-2.ensures.table ∙ c.make_room.ensures.reads.stays.table ∙ c.checked.ensures.reads.stays.table) c.take_name.ensures.rows c.give_back.ensures.rows in
-    subst₂ (λ (ys : List TreeRow) (o : Op). IsOrderly (g.S.Store.site c.args.store.now) (undone (unfolded (unleafed was))) (record { rows = ys; places = c.in_ok-tree.records; logs = c.in-Ok-new-3.logs; attached = c.in-Ok-new.attached; op = o })) (sym is) (sym c.in-Ok-new-2.ensures)
-    (subst (λ (ls : List Log). IsOrderly (g.S.Store.site c.args.store.now) (undone (unfolded (unleafed was))) (record { rows = rows_back (unleafed was) (rows_ended was c.in_ok-tree.tree.rows); places = c.in_ok-tree.records; logs = ls; attached = c.in-Ok-new.attached; op = Idle })) (sym c.in-Ok-new-3.ensures)
-    (opened_with g.S.Store c.args.store.now (rows_back (unleafed was) (rows_ended was c.in_ok-tree.tree.rows)) c.in_ok-tree.records (undoable_unfolded th.checked)
-    (beside_bare g.S.Store c.args.store.now (rows_ended was c.in_ok-tree.tree.rows) c.in_ok-tree.records th.checked th.are th.each k.long th.pass) k.long c.in-Ok-new.attached c.in-Ok-new.ensures.disks c.in-Ok-new.ensures.counts))
+    few_before c.checked.ensures.reads c.give_back.new.tree.rows
+    (few_read g.S.Store c.args.store.now c.in_ok-tree.tree.rows c.in_ok-tree.records k.checked k.rows k.each k.long k.passed c.give_back.new.tree.rows)
 
-pub returns-clause-ready : goal.returns-clause-ready
-returns-clause-ready g c = λ told settled well.
+pub checked_logs-requires-clause-pieces : goal.checked_logs-requires-clause-pieces
+checked_logs-requires-clause-pieces g c =
     let k = c.in_ok-tree.ensures in
-    let was = table_alone (g.S.Store.table c.args.store.now) in
-    let th = is_then g.S.Store c.args.store.now c.in_ok-tree.tree.rows c.in_ok-tree.records k.checked k.rows k.each k.long k.passed in
-    let is = back_is g.S.Store c.args.store.now c.in_ok-tree.tree.rows c.in_ok-tree.records k.checked k.rows k.each k.long k.passed (ap table_alone c.table.ensures.table ∙ c.make_room.ensures.reads.stays.table ∙ c.checked.ensures.reads.stays.table) (ap table_alone c.table-2.ensures.table ∙ c.make_room.ensures.reads.stays.table ∙ c.checked.ensures.reads.stays.table) c.take_name.ensures.rows c.give_back.ensures.rows in
-    subst₂ (λ (ys : List TreeRow) (o : Op). IsReady (g.S.Store.site c.args.store.now) (undone (unfolded (unleafed was))) (g.S.Store.area c.args.store.now) (record { rows = ys; places = c.in_ok-tree.records; logs = c.in-Ok-new-3.logs; attached = c.in-Ok-new.attached; op = o })) (sym is)
-    (sym c.in-Ok-new-2.ensures)
-    (subst (λ (ls : List Log). IsReady (g.S.Store.site c.args.store.now) (undone (unfolded (unleafed was))) (g.S.Store.area c.args.store.now) (record { rows = rows_back (unleafed was) (rows_ended was c.in_ok-tree.tree.rows); places = c.in_ok-tree.records; logs = ls; attached = c.in-Ok-new.attached; op = Idle })) (sym c.in-Ok-new-3.ensures)
-    (opened_ready g.S.Store c.args.store.now (rows_back (unleafed was) (rows_ended was c.in_ok-tree.tree.rows)) c.in_ok-tree.records (undoable_unfolded th.checked)
-    (beside_bare g.S.Store c.args.store.now (rows_ended was c.in_ok-tree.tree.rows) c.in_ok-tree.records th.checked th.are th.each k.long th.pass) told settled
-    (holding_then g.S.Store c.args.store.now c.in_ok-tree.tree.rows c.in_ok-tree.records k.checked k.rows k.each k.long k.passed (k.sound told) well) c.in-Ok-new.attached
-    (agrees_then g.S.Store c.args.store.now c.in_ok-tree.tree.rows c.in_ok-tree.records k.checked k.rows k.each k.long k.passed (k.agrees told))))
+    let same = ap table_alone c.table.ensures.table ∙ c.checked.ensures.reads.stays.table in
+    let same_then = ap table_alone c.table-2.ensures.table ∙ c.checked.ensures.reads.stays.table in
+    let is = rows_are g.S.Store c.args.store.now c.in_ok-tree.tree.rows c.in_ok-tree.records k.checked k.rows k.each k.long k.passed (c.take_name.ensures.rows ∙ ap (λ t. rows_ended t c.in_ok-tree.tree.rows) same)
+    (c.give_back.ensures.rows ∙ ap (λ t. rows_back t c.take_name.new.tree.rows) same_then) in
+    pieces_before c.checked.ensures.reads c.give_back.new.tree.rows
+    (λ told. subst (HasPiecesOf (store_content g.S.Store c.args.store.now)) (sym is)
+    (pieces_are g.S.Store c.args.store.now c.in_ok-tree.tree.rows c.in_ok-tree.records k.checked k.rows k.each k.long k.passed (k.sound told) told))
 
-pub returns-clause-linking : goal.returns-clause-linking
-returns-clause-linking g c =
+pub returns-in_err-logs-clause-reads : goal.returns-in_err-logs-clause-reads
+returns-in_err-logs-clause-reads g c = reads_then c.checked.ensures.reads c.checked_logs.ensures.reads
+
+pub returns-in_err-logs-clause-cause : goal.returns-in_err-logs-clause-cause
+returns-in_err-logs-clause-cause g c =
+    let is : c.from_residual-in_err-logs.result ≡ Err c.in_err-logs.field-0.0 = search rules in
+    if_err (IsOpeningStopped g.S.Store.told (store_content g.S.Store c.args.store.now) (g.S.Store.faults c.args.store.now) (g.S.Store.faults c.checked_logs.new.store)) c.from_residual-in_err-logs.result c.in_err-logs.field-0.0 is
+    (stopped_before c.checked.ensures.reads c.in_err-logs.field-0.0 (g.S.Store.faults c.checked_logs.new.store) c.in_ok-tree.ensures.sound c.in_err-logs.ensures.cause)
+
+pub returns-in_default-clause-reads : goal.returns-in_default-clause-reads
+returns-in_default-clause-reads g c = reads_then (reads_then c.checked.ensures.reads c.checked_logs.ensures.reads) c.room_of.ensures.reads
+
+pub returns-clause-reads : goal.returns-clause-reads
+returns-clause-reads g c = reads_then (reads_then c.checked.ensures.reads c.checked_logs.ensures.reads) c.room_of.ensures.reads
+
+pub returns-clause-sound : goal.returns-clause-sound
+returns-clause-sound g c = λ told.
+    all_pass (store_content g.S.Store c.args.store.now) (c.in_ok-tree.ensures.sound told)
+    ((logs_before c.checked.ensures.reads c.give_back.new.tree.rows c.in_ok-logs.logs c.in_ok-logs.ensures.read).pass told)
+
+pub returns-clause-opened : goal.returns-clause-opened
+returns-clause-opened g c =
     let k = c.in_ok-tree.ensures in
-    let was = table_alone (g.S.Store.table c.args.store.now) in
-    let th = is_then g.S.Store c.args.store.now c.in_ok-tree.tree.rows c.in_ok-tree.records k.checked k.rows k.each k.long k.passed in
-    let is = back_is g.S.Store c.args.store.now c.in_ok-tree.tree.rows c.in_ok-tree.records k.checked k.rows k.each k.long k.passed (ap table_alone c.table.ensures.table ∙ c.make_room.ensures.reads.stays.table ∙ c.checked.ensures.reads.stays.table) (ap table_alone c.table-2.ensures.table ∙ c.make_room.ensures.reads.stays.table ∙ c.checked.ensures.reads.stays.table) c.take_name.ensures.rows c.give_back.ensures.rows in
-    subst (IsLinkRight (unleafed was)) (sym is) (linked_right g.S.Store c.args.store.now (rows_ended was c.in_ok-tree.tree.rows) c.in_ok-tree.records th.checked th.are th.each k.long th.pass)
-
-pub returns-clause-true_images : goal.returns-clause-true_images
-returns-clause-true_images g c = λ told settled.
-    let k = c.in_ok-tree.ensures in
-    let was = table_alone (g.S.Store.table c.args.store.now) in
-    let th = is_then g.S.Store c.args.store.now c.in_ok-tree.tree.rows c.in_ok-tree.records k.checked k.rows k.each k.long k.passed in
-    let is = back_is g.S.Store c.args.store.now c.in_ok-tree.tree.rows c.in_ok-tree.records k.checked k.rows k.each k.long k.passed (ap table_alone c.table.ensures.table ∙ c.make_room.ensures.reads.stays.table ∙ c.checked.ensures.reads.stays.table) (ap table_alone c.table-2.ensures.table ∙ c.make_room.ensures.reads.stays.table ∙ c.checked.ensures.reads.stays.table) c.take_name.ensures.rows c.give_back.ensures.rows in
-    subst (AllAreTrue (stored_with g.S.Store c.args.store.now (undone (unfolded (unleafed was))))) (sym is)
-    (opened_true g.S.Store c.args.store.now (rows_back (unleafed was) (rows_ended was c.in_ok-tree.tree.rows)) c.in_ok-tree.records (undoable_unfolded th.checked)
-    (beside_bare g.S.Store c.args.store.now (rows_ended was c.in_ok-tree.tree.rows) c.in_ok-tree.records th.checked th.are th.each k.long th.pass) told settled)
-
-pub returns-clause-tree_room : goal.returns-clause-tree_room
-returns-clause-tree_room g c = let k = c.in_ok-tree.ensures in omega (arith, c.give_back.ensures.room, c.take_name.ensures.room, k.room)
+    let same = ap table_alone c.table.ensures.table ∙ c.checked.ensures.reads.stays.table in
+    let same_then = ap table_alone c.table-2.ensures.table ∙ c.checked.ensures.reads.stays.table in
+    let is = rows_are g.S.Store c.args.store.now c.in_ok-tree.tree.rows c.in_ok-tree.records k.checked k.rows k.each k.long k.passed (c.take_name.ensures.rows ∙ ap (λ t. rows_ended t c.in_ok-tree.tree.rows) same)
+    (c.give_back.ensures.rows ∙ ap (λ t. rows_back t c.take_name.new.tree.rows) same_then) in
+    opened_on g.S.Store c.args.store.now c.in_ok-tree.tree.rows c.in_ok-tree.records k.checked k.rows k.each k.long k.passed _ is refl c.in-Ok.ensures.unattached.0 c.in-Ok.ensures.unattached.1 c.in-Ok.ensures.idle
+    (logs_before c.checked.ensures.reads c.give_back.new.tree.rows c.in_ok-logs.logs c.in_ok-logs.ensures.read) k.sound k.agrees

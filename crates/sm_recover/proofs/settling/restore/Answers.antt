@@ -1,14 +1,19 @@
 use Rattle.std.proofs.Common.{◌≤◌, ap, sym, subst, ◌∙◌}
-use Rattle.common_laws.specs.Lists.{In}
 use Rattle.sm_disk.proofs.HeldLaws.{Keeps-then}
 use Rattle.vg_meta.specs.Roomy.{table_alone}
+use Rattle.vg_meta.specs.Tables.{VolumeTable}
+use Rattle.vg_volumes.specs.Sites.{Site}
 use Rattle.vg_volumes.specs.Stored.{stored}
 use Rattle.vg_volumes.proofs.StoredLaws.{reads_none}
-use Rattle.sm_standing.specs.Opened.{cleaned}
+use Rattle.sm_standing.specs.Entries.{folding, head}
+use Rattle.sm_standing.specs.Opened.{cleaned, undone}
+use Rattle.sm_standing.specs.Unfolded.{unfolded}
+use Rattle.vhd_chain.specs.Trees.{Tree}
 use Rattle.sm_ready.specs.Known.{known}
 use Rattle.sm_ready.specs.Sessions.{IsAtEase}
+use Rattle.sm_recover.proofs.GoodBehind.{HasSizes, cleaned_later, good_behind, linked_sizes}
 use Rattle.sm_recover.proofs.SweptLaws.{shape_opened}
-use Rattle.sm_recover.proofs.SettleLaws.{area_behind, checked_behind, few_all, few_linking, link_begun, link_same, linkable_behind, opened_behind, orderly_behind, same_behind, same_first, start, table_behind, true_behind}
+use Rattle.sm_recover.proofs.SettleLaws.{area_behind, checked_behind, few_all, few_linking, link_begun, link_same, linkable_behind, no_stray_as, none_stray, opened_behind, orderly_behind, same_behind, same_first, start, table_behind, true_behind}
 use Rattle.sm_recover.proofs.settling.restore.Goals as goal
 
 pub returns-in_err-undo-clause-beside : goal.returns-in_err-undo-clause-beside
@@ -117,6 +122,33 @@ returns-clause-disks g c = λ told h.
     (c.in_ok-repair.ensures.rest told).same_disks (start r u.site u.undone c.requires.endable c.link_up.ensures.site l.unfolded c.link_up.new.memory l.orderly rest l.at_ease)
     ∙ rest.same_disks ∙ (same_first r u.site u.undone c.requires.endable told (u.keeps told) h.settled (u.settled told) h.sound h.well).same_disks
 
+pub returns-clause-no_stray_log : goal.returns-clause-no_stray_log
+returns-clause-no_stray_log g c =
+    let u = c.in_ok-undo.ensures in
+    let l = c.in_ok-link_up.ensures in
+    let linked = none_stray (reads_none {g = g.S.Store} c.args.store.now) u.site u.undone c.requires.endable c.link_up.ensures.site l.unfolded c.args.memory.now c.link_up.new.memory c.requires.orderly
+    l.orderly c.link_up.ensures.logs c.requires.no_stray_log in
+    no_stray_as c.link_up.new.memory c.repair.new.memory linked c.repair.ensures.tree c.repair.ensures.logs
+
+pub returns-clause-good_logs : goal.returns-clause-good_logs
+returns-clause-good_logs g c =
+    let u = c.in_ok-undo.ensures in
+    let l = c.in_ok-link_up.ensures in
+    let r = reads_none {g = g.S.Store} c.args.store.now in
+    let first = c.args.store.now in
+    let mid = c.undo.new.store in
+    let m = c.args.memory.now in
+    let t = undone (unfolded (table_alone (g.S.Store.table first))) in
+    let table = c.in_ok-repair.ensures.cleaned ∙ ap cleaned (table_behind r u.site u.undone c.requires.endable c.link_up.ensures.site l.unfolded) in
+    good_behind (g.S.Store.site first) t (known m) (g.S.Store.site c.repair.new.store) (table_alone (g.S.Store.table c.repair.new.store)) (known c.repair.new.memory) c.in_ok-repair.ensures.orderly
+    (ap (λ (s : Site). s.geometry.extent) (c.repair.ensures.site ∙ c.link_up.ensures.site ∙ c.undo.ensures.site))
+    (subst (λ (v : VolumeTable). t.sequence ≤ v.sequence) (sym table) (cleaned_later t c.requires.orderly.table.sequence))
+    (c.repair.ensures.logs ∙ c.link_up.ensures.logs) (returns-clause-no_stray_log g c)
+    (subst (λ (x : Tree). HasSizes m.tree.rows x.rows) (sym c.repair.ensures.tree)
+    (linked_sizes (g.S.Store.site mid) (table_alone (g.S.Store.table mid)) m.tree.rows (g.S.Store.site mid) (g.S.Store.site c.link_up.new.store) (unfolded (table_alone (g.S.Store.table mid)))
+    (table_alone (g.S.Store.table c.link_up.new.store)) (known m) (known c.link_up.new.memory) (head (folding (table_alone (g.S.Store.table mid))))
+    (linkable_behind r u.site u.undone c.requires.endable m c.requires.linking) l.shape))
+
 pub returns-clause-opened : goal.returns-clause-opened
 returns-clause-opened g c = λ told h.
     let r = reads_none {g = g.S.Store} c.args.store.now in
@@ -126,11 +158,11 @@ returns-clause-opened g c = λ told h.
     let rest = l.rest told (link_begun r u.site u.undone c.requires.endable told (u.keeps told) h.settled (u.settled told) c.args.memory.now h.sound h.well h.ready) in
     let begun = start r u.site u.undone c.requires.endable c.link_up.ensures.site l.unfolded c.link_up.new.memory l.orderly rest l.at_ease in
     let q : IsAtEase c.repair.new.memory = record { idle = c.repair.ensures.operation ∙ l.at_ease.idle; unattached = ap (λ a. a.disks) c.repair.ensures.attached ∙ l.at_ease.unattached } in
-    let linked = c.link_up.ensures.logs ∙ c.requires.untracked in
-    let repaired = c.repair.ensures.logs ∙ linked in
+    let linked = none_stray r u.site u.undone c.requires.endable c.link_up.ensures.site l.unfolded c.args.memory.now c.link_up.new.memory c.requires.orderly l.orderly c.link_up.ensures.logs c.requires.no_stray_log in
     shape_opened (stored g.S.Store c.link_up.new.store) (known c.link_up.new.memory) begun (stored g.S.Store c.repair.new.store) (known c.repair.new.memory)
-    (e.rest told) e.site e.cleaned e.tidy.none_new q.unattached q.idle (λ l i. absurd (subst (In l) repaired i))
-    ∙ opened_behind r u.site u.undone c.requires.endable c.link_up.ensures.site l.unfolded c.args.memory.now c.link_up.new.memory h.sound h.settled c.requires.orderly h.ready c.requires.at_ease (λ l i. absurd (subst (In l) c.requires.untracked i)) begun l.at_ease.unattached (λ l i. absurd (subst (In l) linked i)) c.requires.linking l.shape
+    (e.rest told) e.site e.cleaned e.tidy.none_new q.unattached q.idle (no_stray_as c.link_up.new.memory c.repair.new.memory linked c.repair.ensures.tree c.repair.ensures.logs)
+    ∙ opened_behind r u.site u.undone c.requires.endable c.link_up.ensures.site l.unfolded c.args.memory.now c.link_up.new.memory h.sound h.settled c.requires.orderly h.ready c.requires.at_ease c.requires.no_stray_log begun
+    l.at_ease.unattached linked c.requires.linking l.shape
 
 pub returns-clause-crash : goal.returns-clause-crash
 returns-clause-crash g c = λ told t image leaves h.
