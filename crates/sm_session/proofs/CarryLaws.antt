@@ -65,6 +65,11 @@ pub of_reply : (P : Reply → Type 0) (result : Result Reply Failed) → ((r : R
 of_reply P (Ok r) all = all r
 of_reply P (Err e) all = tt
 
+-- what holds anyway holds of a call that succeeded
+pub on_ok : {T E : Type 0} (r : Result T E) {P : Type 0} → P → OnOk r P
+on_ok (Ok v) h = h
+on_ok (Err e) h = tt
+
 -- ---- what a command did to the store, and what it leaves of the session
 
 module _ {S : Type 0} {g : Ghosts S} {a b : S} where

@@ -1,5 +1,5 @@
 -- What a session knows of its logs from step to step.
-use Rattle.std.proofs.Common.{◌≡◌, ◌⊎◌, ⊎_elim, [], Ok, sym, ◌∙◌, subst}
+use Rattle.std.proofs.Common.{◌≡◌, ◌⊎◌, ⊎_elim, Ok, sym, subst}
 use Rattle.std.proofs.Math.Logic.{∥∥₁_elim, ∥∥₁_map}
 use Rattle.std.proofs.Props.{props}
 use Rattle.vg_meta.specs.Roomy.{table_alone}
@@ -8,25 +8,14 @@ use Rattle.vg_volumes.specs.declared.stores.Store.{Ghosts}
 use Rattle.sm_machine.specs.declared.commands.Command.{Command}
 use Rattle.sm_machine.specs.declared.replies.Reply.{Reply}
 use Rattle.sm_machine.specs.Steps.{State}
-use Rattle.sm_machine.specs.Tracking.{AreGoodLogs, logs_after, tracked_step}
+use Rattle.sm_machine.specs.Tracking.{AreGoodLogs, tracked_step}
 use Rattle.sm_machine.specs.WellFormed.{IsWellFormed}
-use Rattle.sm_machine.proofs.Tracked.{none_after, untracked_good}
 use Rattle.sm_machine.proofs.TrackedLogs.{tracked_step_keeps_logs}
 use Rattle.sm_ready.specs.Does.{store_shape}
 use Rattle.sm_ready.specs.Known.{known, shape_in}
 use Rattle.sm_ready.specs.Sessions.{store_state}
 use Rattle.sm_ready.specs.declared.memory.Memory.{Memory}
 use Rattle.sm_session.specs.Stepped.{StoreSteps}
-
--- without logs they are good
-pub good_without : {S : Type 0} (g : Ghosts S) (a : S) (m : Memory) → m.logs ≡ [] → ∥ AreGoodLogs (store_shape g a m) ∥₁
-unfolding shape_in
-good_without g a m none = ∣ untracked_good (store_shape g a m) none ∣₁
-
--- and there are none still
-pub still_without : {S : Type 0} (g : Ghosts S) (a : S) (m n : Memory) (c : Command) → m.logs ≡ [] → (n.logs ≡ m.logs) ⊎ (n.logs ≡ logs_after (store_shape g a m) c) → n.logs ≡ []
-unfolding shape_in
-still_without g a m n c none h = ⊎_elim (λ same. same ∙ none) (λ after. after ∙ none_after (store_shape g a m) c none) h
 
 -- a step keeps them good
 good_state : (σ τ : State) (c : Command) (P Q : Type 0) → (P × (τ ≡ σ)) ⊎ (Q × (τ ≡ (tracked_step σ c).after)) → ∥ IsWellFormed σ.shape ∥₁ → ∥ AreGoodLogs σ.shape ∥₁ → ∥ AreGoodLogs τ.shape ∥₁

@@ -2,4 +2,6 @@ pub mod CarryLaws
 pub mod CollectLaws
 pub mod GoodLaws
 pub mod LoggedLaws
-pub mod UnloggedLaws
+pub mod PassLaws
+pub mod SnapshotLaws
+pub mod UntrackLaws

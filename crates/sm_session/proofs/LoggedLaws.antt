@@ -4,6 +4,7 @@ use Rattle.std.specs.Prelude.{IfSome, ◌==◌, ◌*◌, ◌≤◌}
 use Rattle.std.proofs.Math.Logic.{∥∥₁_elim}
 use Rattle.std.proofs.Props.{props}
 use Rattle.std.proofs.lemmas.Bool.{or_parts, true≢false}
+use Rattle.std.proofs.lemmas.Option.{none-some}
 use Rattle.common_laws.specs.Lists.{In}
 use Rattle.common_laws.proofs.Bytes.{bytes_eq-same}
 use Rattle.common_laws.proofs.Lists.{find-some}
@@ -38,6 +39,7 @@ use Rattle.sm_cbt.specs.Marks.{IsWithinLog}
 use Rattle.sm_machine.proofs.Tracked.{unlogged_is_step}
 use Rattle.sm_run.specs.Between.{IsBetween}
 use Rattle.sm_standing.specs.Keeping.{IsKept}
+use Rattle.sm_standing.specs.LogChecks.{log_fault}
 use Rattle.sm_standing.specs.Standing.{disks}
 use Rattle.sm_ready.specs.Known.{known, shape_in}
 use Rattle.sm_ready.specs.Ready.{IsReady}
@@ -46,16 +48,20 @@ use Rattle.sm_ready.specs.Stores.{MayShow, StoreLeaves, content_in, content_now,
 use Rattle.sm_ready.specs.Taken.{HasTakenTo, StoreTakes, StoreTakesTo}
 use Rattle.sm_ready.specs.declared.memory.Memory.{Memory}
 use Rattle.sm_ready.proofs.ShowLaws.{faces_ready}
-use Rattle.sm_ready.proofs.TakenLaws.{IsTold, step_accepted, taken_refused}
-use Rattle.vg_volumes.proofs.StoredLaws.{works_none}
+use Rattle.sm_ready.proofs.TakenLaws.{IsTold, step_accepted, taken_poor, taken_refused}
+use Rattle.vg_volumes.proofs.StoredLaws.{reads_none, stays_none, works_none}
+use Rattle.sm_ready.proofs.FramingLaws.{stays_steps}
+use Rattle.sm_ready.specs.Framing.{StepsOn}
+use Rattle.sm_standing.specs.Logs.{IsLogOf, IsLogged}
 use Rattle.cmd_guest.specs.Writing.{WritesOnly}
 use Rattle.sm_base.specs.declared.names.Name.TheVariants.{Cbt}
 use Rattle.vg_layout.specs.Places.{record_extents}
 use Rattle.vg_volumes.specs.Stored.{Stays, WorksOn}
 use Rattle.sm_ready.specs.Does.{store_shape}
-use Rattle.sm_session.specs.Carrying.{MarksAndWritesIts, WritesOnlyIts}
-use Rattle.sm_session.proofs.CarryLaws.{writes_none}
-use Rattle.sm_session.specs.Stepped.{HasChangedLogs, IsLoggedBetween, StoreSteps}
+use Rattle.sm_session.specs.Carrying.{MarksAndWritesIts, MarksLast, WritesOnlyIts}
+use Rattle.sm_session.specs.Stepped.{StoreSteps}
+use Rattle.sm_session.proofs.PassLaws.{IsUnsplit, kept_passes, step_passes}
+use Rattle.sm_tracking.specs.Tracking.{HasChangedLogs, IsLoggedBetween}
 
 -- ---- the machine's step
 
@@ -72,13 +78,13 @@ none_split u twin tag logs o e = ap (λ (x : Option Log). split_of u twin tag x 
 
 -- commands that do nothing to logs, where a snapshot is of a disk without one
 logs_same : (s : Shape) (c : Command) → ((u : List ℕ) (sector : ℕ) (bytes : List ℕ) → c ≡ command.Write u sector bytes → ⊥) → ((u : List ℕ) (sector count byte : ℕ) → c ≡ command.Fill u sector count byte → ⊥) → ((u : List ℕ) → c ≡ command.Delete u → ⊥)
-    → ((u : List ℕ) → log_of u s.logs ≡ None) → (logs_after s c ≡ s.logs) × (log_commits s c ≡ 0)
+    → ((u twin : List ℕ) → c ≡ command.Snapshot u twin → log_of u s.logs ≡ None) → (logs_after s c ≡ s.logs) × (log_commits s c ≡ 0)
 unfolding logs_after log_commits
 logs_same s (command.Create u size raw label) no_write no_fill no_delete none = (refl, refl)
 logs_same s (command.Delete u) no_write no_fill no_delete none = absurd (no_delete u refl)
 logs_same s (command.Attach u mode) no_write no_fill no_delete none = (refl, refl)
 logs_same s (command.Detach u) no_write no_fill no_delete none = (refl, refl)
-logs_same s (command.Snapshot u twin) no_write no_fill no_delete none = (none_split u twin s.sequence s.logs (log_of u s.logs) (none u), ap (of_log (λ (l : Log). 2)) (none u))
+logs_same s (command.Snapshot u twin) no_write no_fill no_delete none = (none_split u twin s.sequence s.logs (log_of u s.logs) (none u twin refl), ap (of_log (λ (l : Log). 2)) (none u twin refl))
 logs_same s (command.Clone u twin) no_write no_fill no_delete none = (refl, refl)
 logs_same s (command.Resize u size) no_write no_fill no_delete none = (refl, refl)
 logs_same s (command.Label u text) no_write no_fill no_delete none = (refl, refl)
@@ -91,7 +97,7 @@ logs_same s command.List no_write no_fill no_delete none = (refl, refl)
 logs_same s command.Stat no_write no_fill no_delete none = (refl, refl)
 
 pub step_same : (σ : State) (c : Command) → ((u : List ℕ) (sector : ℕ) (bytes : List ℕ) → c ≡ command.Write u sector bytes → ⊥) → ((u : List ℕ) (sector count byte : ℕ) → c ≡ command.Fill u sector count byte → ⊥) → ((u : List ℕ) → c ≡ command.Delete u → ⊥)
-    → ((u : List ℕ) → log_of u σ.shape.logs ≡ None) → tracked_step σ c ≡ step σ c
+    → ((u twin : List ℕ) → c ≡ command.Snapshot u twin → log_of u σ.shape.logs ≡ None) → tracked_step σ c ≡ step σ c
 step_same σ c no_write no_fill no_delete none = let e = logs_same σ.shape c no_write no_fill no_delete none in unlogged_is_step σ c e.0 e.1
 
 -- ---- marks, and then a write
@@ -224,40 +230,62 @@ between_more : (P Q : List Disk → Type 0) → ((ds : List Disk) → P ds → Q
 between_more P Q more old new ds (inl still) = inl (record { faces = still.faces; sectors = λ u k bytes h. (let w = still.sectors u k bytes h in (w.0, more w.0 w.1, w.2)) })
 between_more P Q more old new ds (inr already) = inr (record { faces = already.faces; sectors = λ u k bytes h. ⊎_elim (λ w. inl (w.0, more w.0 w.1, w.2)) (λ w. inr w) (already.sectors u k bytes h) })
 
-module _ {S : Type 0} {g : Ghosts S} {a : S} {m : Memory} (h : IsTold g a m) where
+-- the machine's logs behind a command that is not refused
+pub logs_behind : (σ : State) (c : Command) → refusal σ.shape c ≡ None → (tracked_step σ c).after.shape.logs ≡ logs_after σ.shape c
+logs_behind σ c passes = ap (λ (o : Outcome). o.after.shape.logs) (tracked_behind σ c passes)
+
+-- a write takes no snapshot
+pub write_unsplit : {u : List ℕ} {sector count : ℕ} (c : Command) (s : Shape) → IsWriteOf c u sector count → IsUnsplit s c
+write_unsplit {u} {sector} c s (inl w) passes v twin e = absurd (let z : command.Write u sector w.0 ≡ command.Snapshot v twin = sym w.1 ∙ e in cc)
+write_unsplit {u} {sector} {count} c s (inr w) passes v twin e = absurd (let z : command.Fill u sector count w.0 ≡ command.Snapshot v twin = sym w.1 ∙ e in cc)
+
+-- nor does a deletion
+pub delete_unsplit : (c : Command) (s : Shape) (u : List ℕ) → c ≡ command.Delete u → IsUnsplit s c
+delete_unsplit c s u is passes v twin e = absurd (let z : command.Delete u ≡ command.Snapshot v twin = sym is ∙ e in cc)
+
+module _ {S : Type 0} {g : Ghosts S} {a : S} {m : Memory} (h : IsTold g a m) (good : ∥ AreGoodLogs (store_state g a m).shape ∥₁) where
+  -- what a stop leaves of a command, and with which logs
+  abbrev pub Crashes : S → Command → Type 0
+  Crashes b c = (v : VolumeTable) (image : ℕ → List ℕ) → StoreLeaves g b v image → IsKept (content_in (g.site a) v image)
+      × IsBetween (MayShow (g.site a) (StoreLeaves g a)) (store_state g a m).disks (tracked_step (store_state g a m) c).after.disks (disks (content_in (g.site a) v image))
+
+  abbrev pub Logs : S → Command → Type 0
+  Logs b c = (v : VolumeTable) (image : ℕ → List ℕ) → StoreLeaves g b v image → IsLoggedBetween (content_in (g.site a) v image) m.logs (tracked_step (store_state g a m) c).after.shape.logs
+
+  -- a call that failed
+  stopped : {b : S} {most : ℕ} (n : Memory) (c : Command) (f : Failed) → StepsOn g most a b → IsUnsplit (store_state g a m).shape c → Crashes b c → Logs b c → StoreSteps g c a m b n (Err f)
+  stopped n c f steps unsplit crash logged = record { reply = tt; ready = tt; settled = tt; crash = crash; logged = logged; passes = step_passes h good c steps unsplit crash logged }
+
+  -- logs that are those from before
+  pub still_logged : {b : S} (n : Memory) (c : Command) → n.logs ≡ m.logs → ((v : VolumeTable) (image : ℕ → List ℕ) → StoreLeaves g b v image → IsLogged (content_in (g.site a) v image) n.logs) → Logs b c
+  still_logged n c same logged v image l u = (log_of u m.logs, subst (λ (ls : List Log). IsLogOf (content_in (g.site a) v image) u (log_of u ls)) same (logged v image l u), inl refl)
+
   -- disks that a stop might have shown are between
   shown_between : (new ds : List Disk) → MayShow (g.site a) (StoreLeaves g a) ds → IsBetween (MayShow (g.site a) (StoreLeaves g a)) (store_state g a m).disks new ds
   shown_between new ds may = inl (record { faces = faces_ready h ds may; sectors = λ u k bytes is. (ds, may, is) })
 
   -- a command that does nothing to logs
-  pub stepped_same : {b : S} (n : Memory) (c : Command) (r : Result Reply Failed) → tracked_step (store_state g a m) c ≡ step (store_state g a m) c → StoreTakes g c a m b n r → StoreSteps g c a m b n r
-  stepped_same {b} n c r same t =
+  pub stepped_same : {b : S} {most : ℕ} (n : Memory) (c : Command) (r : Result Reply Failed) → StepsOn g most a b → IsUnsplit (store_state g a m).shape c → n.logs ≡ m.logs → tracked_step (store_state g a m) c ≡ step (store_state g a m) c
+      → StoreTakes g c a m b n r → StoreSteps g c a m b n r
+  stepped_same {b} n c r steps unsplit logs same t =
       let w : StoreTakesTo (tracked_step (store_state g a m) c) g c a m b n r = subst (λ (o : Outcome). StoreTakesTo o g c a m b n r) (sym same) t in
-      record { reply = w.reply; ready = w.ready; settled = w.settled; crash = w.crash; logged = λ v image l u. inr (inl (w.logged v image l u)) }
+      let logged : Logs b c = still_logged n c logs w.logged in
+      record { reply = w.reply; ready = w.ready; settled = w.settled; crash = w.crash; logged = logged; passes = step_passes h good c steps unsplit w.crash logged }
 
   -- a call that failed, and left the logs
-  pub stopped_same : {b : S} (n : Memory) (c : Command) (f : Failed) → refusal (store_state g a m).shape c ≡ None → StoreTakes g c a m b n (Err f) → StoreSteps g c a m b n (Err f)
-  stopped_same {b} n c f passes t = record {
-    reply = tt;
-    ready = tt;
-    settled = tt;
-    crash = subst (λ (ds : List Disk). (v : VolumeTable) (image : ℕ → List ℕ) → StoreLeaves g b v image → IsKept (content_in (g.site a) v image) × IsBetween (MayShow (g.site a) (StoreLeaves g a)) (store_state g a m).disks ds (disks (content_in (g.site a) v image)))
-        (ap (λ (o : Outcome). o.after.disks) (sym (tracked_behind (store_state g a m) c passes))) t.crash;
-    logged = λ v image l u. inr (inl (t.logged v image l u));
-  }
+  pub stopped_same : {b : S} {most : ℕ} (n : Memory) (c : Command) (f : Failed) → StepsOn g most a b → IsUnsplit (store_state g a m).shape c → n.logs ≡ m.logs → refusal (store_state g a m).shape c ≡ None → StoreTakes g c a m b n (Err f)
+      → StoreSteps g c a m b n (Err f)
+  stopped_same {b} n c f steps unsplit logs passes t = stopped n c f steps unsplit
+      (subst (λ (ds : List Disk). (v : VolumeTable) (image : ℕ → List ℕ) → StoreLeaves g b v image → IsKept (content_in (g.site a) v image) × IsBetween (MayShow (g.site a) (StoreLeaves g a)) (store_state g a m).disks ds (disks (content_in (g.site a) v image)))
+      (ap (λ (o : Outcome). o.after.disks) (sym (tracked_behind (store_state g a m) c passes))) t.crash) (still_logged n c logs t.logged)
 
   -- ---- marks before it
 
-  module _ {b : S} {n : Memory} {ok : Type 0} (site : g.site b ≡ g.site a) (x : HasChangedLogs g a m b n ok) where
+  module _ {b : S} {n : Memory} {ls : List Log} {ok : Type 0} (site : g.site b ≡ g.site a) (x : HasChangedLogs g a m b n ls ok) where
     -- they failed
-    pub marks_stopped : (c : Command) (f : Failed) → StoreSteps g c a m b n (Err f)
-    marks_stopped c f = record {
-      reply = tt;
-      ready = tt;
-      settled = tt;
-      crash = λ v image l. (let w = x.crash v image l in (w.0, shown_between _ _ w.1));
-      logged = x.logged;
-    }
+    pub marks_stopped : {most : ℕ} (c : Command) (f : Failed) → StepsOn g most a b → IsUnsplit (store_state g a m).shape c → ls ≡ (tracked_step (store_state g a m) c).after.shape.logs → StoreSteps g c a m b n (Err f)
+    marks_stopped c f steps unsplit aims = stopped n c f steps unsplit (λ v image l. (let w = x.crash v image l in (w.0, shown_between _ _ w.1)))
+        (λ v image l. subst (IsLoggedBetween (content_in (g.site a) v image) m.logs) aims (x.logged v image l))
 
     -- the command behind them
     module _ (e : S) (k : Memory) (c : Command) (r : Result Reply Failed) (same : step (store_state g b n) c ≡ tracked_step (store_state g a m) c) (rich : IfOk r (λ y. y ≡ No NoMemory → ⊥)) where
@@ -282,79 +310,108 @@ module _ {S : Type 0} {g : Ghosts S} {a : S} {m : Memory} (h : IsTold g a m) whe
       earlier : (ds : List Disk) → MayShow (g.site a) (StoreLeaves g b) ds → MayShow (g.site a) (StoreLeaves g a) ds
       earlier ds may = subst (MayShow (g.site a) (StoreLeaves g a)) (sym may.shown) (x.crash may.table may.image may.left).1
 
-      pub marks_stepped : StoreTakes g c b n e k r → StoreSteps g c a m e k r
-      marks_stepped t =
+      pub marks_stepped : {most : ℕ} → StepsOn g most a e → IsUnsplit (store_state g a m).shape c → k.logs ≡ o.after.shape.logs → StoreTakes g c b n e k r → StoreSteps g c a m e k r
+      marks_stepped steps unsplit aims t =
           let w = placed t in
+          let crash : Crashes e c = λ v image l. (let z = w.crash v image l in (
+            z.0,
+            subst (λ (was : List Disk). IsBetween (MayShow (g.site a) (StoreLeaves g a)) was o.after.disks (disks (content_in (g.site a) v image))) shown_site
+                (between_more (MayShow (g.site a) (StoreLeaves g b)) (MayShow (g.site a) (StoreLeaves g a)) earlier _ _ _ z.1),
+          )) in
+          let logged : Logs e c = λ v image l u. (log_of u k.logs, w.logged v image l u, inr (inl (ap (log_of u) aims))) in
           record {
             reply = replied r _ rich w.reply;
             ready = w.ready;
             settled = w.settled;
-            crash = λ v image l. (let z = w.crash v image l in (
-              z.0,
-              subst (λ (was : List Disk). IsBetween (MayShow (g.site a) (StoreLeaves g a)) was o.after.disks (disks (content_in (g.site a) v image))) shown_site
-                  (between_more (MayShow (g.site a) (StoreLeaves g b)) (MayShow (g.site a) (StoreLeaves g a)) earlier _ _ _ z.1),
-            ));
-            logged = λ v image l u. inr (inl (w.logged v image l u));
+            crash = crash;
+            logged = logged;
+            passes = step_passes h good c steps unsplit crash logged;
           }
 
-  -- ---- a log goes behind it
+  -- ---- a call that changes logs behind it
 
-  module _ {b e : S} {n k : Memory} {ok : Type 0} (u : List ℕ) (y : Reply) (passes : refusal (store_state g a m).shape (command.Delete u) ≡ None) (t : StoreTakes g (command.Delete u) a m b n (Ok y)) (site : g.site b ≡ g.site a) (logs : n.logs ≡ m.logs)
-      (x : HasChangedLogs g b n e k ok) where
+  -- whatever a stop leaves passes the check of logs
+  abbrev pub Passes : S → Type 0
+  Passes b = (v : VolumeTable) (image : ℕ → List ℕ) → StoreLeaves g b v image → log_fault (content_in (g.site a) v image) ≡ None
+
+  module _ {b e : S} {n k : Memory} {ls : List Log} {ok : Type 0} (c : Command) (y : Reply) (passes : refusal (store_state g a m).shape c ≡ None) (t : StoreTakes g c a m b n (Ok y)) (site : g.site b ≡ g.site a) (logs : n.logs ≡ m.logs)
+      (aims : ls ≡ logs_after (store_state g a m).shape c) (x : HasChangedLogs g b n e k ls ok) where
     abbrev was : State
     was = store_state g a m
 
     abbrev now : Outcome
-    now = tracked_step was (command.Delete u)
+    now = tracked_step was c
 
-    behind : now ≡ with_tracked was.shape (command.Delete u) (step was (command.Delete u))
-    behind = tracked_behind was (command.Delete u) passes
+    behind : now ≡ with_tracked was.shape c (step was c)
+    behind = tracked_behind was c passes
 
     stops : (v : VolumeTable) (image : ℕ → List ℕ) → StoreLeaves g e v image → IsKept (content_in (g.site a) v image) × MayShow (g.site a) (StoreLeaves g b) (disks (content_in (g.site a) v image))
     stops = subst (λ (s : Site). (v : VolumeTable) (image : ℕ → List ℕ) → StoreLeaves g e v image → IsKept (content_in s v image) × MayShow s (StoreLeaves g b) (disks (content_in s v image))) site x.crash
 
-    crash : (v : VolumeTable) (image : ℕ → List ℕ) → StoreLeaves g e v image → IsKept (content_in (g.site a) v image) × IsBetween (MayShow (g.site a) (StoreLeaves g a)) was.disks now.after.disks (disks (content_in (g.site a) v image))
-    crash v image l =
+    pub later_crash : Crashes e c
+    later_crash v image l =
         let z = stops v image l in
         let may = z.1 in (
           z.0,
           subst (λ (ds : List Disk). IsBetween (MayShow (g.site a) (StoreLeaves g a)) was.disks ds (disks (content_in (g.site a) v image))) (ap (λ (o : Outcome). o.after.disks) (sym behind))
-              (subst (IsBetween (MayShow (g.site a) (StoreLeaves g a)) was.disks (step was (command.Delete u)).after.disks) (sym may.shown) (t.crash may.table may.image may.left).1),
+              (subst (IsBetween (MayShow (g.site a) (StoreLeaves g a)) was.disks (step was c).after.disks) (sym may.shown) (t.crash may.table may.image may.left).1),
         )
 
-    logged : (v : VolumeTable) (image : ℕ → List ℕ) → StoreLeaves g e v image → IsLoggedBetween (content_in (g.site a) v image) m.logs k.logs
-    logged = subst (λ (s : Site). (v : VolumeTable) (image : ℕ → List ℕ) → StoreLeaves g e v image → IsLoggedBetween (content_in s v image) m.logs k.logs) site
-        (subst (λ (ls : List Log). (v : VolumeTable) (image : ℕ → List ℕ) → StoreLeaves g e v image → IsLoggedBetween (content_in (g.site b) v image) ls k.logs) logs x.logged)
+    pub later_logged : Logs e c
+    later_logged v image l = subst (IsLoggedBetween (content_in (g.site a) v image) m.logs) (aims ∙ sym (logs_behind was c passes))
+        (subst (λ (s : Site). IsLoggedBetween (content_in s v image) m.logs ls) site
+        (subst (λ (ms : List Log). IsLoggedBetween (content_in (g.site b) v image) ms ls) logs (x.logged v image l)))
 
-    pub end_stopped : (f : Failed) → StoreSteps g (command.Delete u) a m e k (Err f)
-    end_stopped f = record { reply = tt; ready = tt; settled = tt; crash = crash; logged = logged }
+    pub later_stopped : Passes e → (f : Failed) → StoreSteps g c a m e k (Err f)
+    later_stopped whole f = record { reply = tt; ready = tt; settled = tt; crash = later_crash; logged = later_logged; passes = whole }
 
     -- it succeeded
     module _ (fine : ok) (rich : y ≡ No NoMemory → ⊥) (site_end : g.site e ≡ g.site a)
-        (shaped : shape_in (g.site a) (table_alone (g.table e)) (known k) ≡ with_logs (without_log u m.logs) (of_log (λ l. 1) (log_of u m.logs)) (shape_in (g.site a) (table_alone (g.table b)) (known n))) where
+        (shaped : shape_in (g.site a) (table_alone (g.table e)) (known k) ≡ with_logs (logs_after was.shape c) (log_commits was.shape c) (shape_in (g.site a) (table_alone (g.table b)) (known n))) where
       shown : disks (content_now (g.site a) (table_alone (g.table e)) (g.area e)) ≡ disks (content_now (g.site a) (table_alone (g.table b)) (g.area b))
       shown = ap (λ (s : Site). disks (content_now s (table_alone (g.table e)) (g.area e))) (sym site_end) ∙ x.shown ∙ ap (λ (s : Site). disks (content_now s (table_alone (g.table b)) (g.area b))) site
 
-      after : state_in (g.site a) (table_alone (g.table b)) (g.area b) (known n) ≡ (step was (command.Delete u)).after → state_in (g.site a) (table_alone (g.table e)) (g.area e) (known k) ≡ now.after
-      unfolding logs_after log_commits shape_in
+      after : state_in (g.site a) (table_alone (g.table b)) (g.area b) (known n) ≡ (step was c).after → state_in (g.site a) (table_alone (g.table e)) (g.area e) (known k) ≡ now.after
       after q =
           ap₂ (λ (ds : List Disk) (s : Shape). let z : State = record { disks = ds; shape = s } in z) (shown ∙ ap (λ (z : State). z.disks) q)
-          (shaped ∙ ap (with_logs (without_log u m.logs) (of_log (λ l. 1) (log_of u m.logs))) (ap (λ (z : State). z.shape) q))
+          (shaped ∙ ap (with_logs (logs_after was.shape c) (log_commits was.shape c)) (ap (λ (z : State). z.shape) q))
           ∙ ap (λ (o : Outcome). o.after) (sym behind)
 
-      ended : ((y ≡ No NoMemory) × (state_in (g.site a) (table_alone (g.table b)) (g.area b) (known n) ≡ was)) ⊎ ((y ≡ (step was (command.Delete u)).reply) × (state_in (g.site a) (table_alone (g.table b)) (g.area b) (known n) ≡ (step was (command.Delete u)).after))
+      ended : ((y ≡ No NoMemory) × (state_in (g.site a) (table_alone (g.table b)) (g.area b) (known n) ≡ was)) ⊎ ((y ≡ (step was c).reply) × (state_in (g.site a) (table_alone (g.table b)) (g.area b) (known n) ≡ (step was c).after))
           → ((y ≡ No NoMemory) × (state_in (g.site a) (table_alone (g.table e)) (g.area e) (known k) ≡ was)) ⊎ ((y ≡ now.reply) × (state_in (g.site a) (table_alone (g.table e)) (g.area e) (known k) ≡ now.after))
       ended (inl poor) = absurd (rich poor.0)
       ended (inr whole) = inr (whole.0 ∙ ap (λ (o : Outcome). o.reply) (sym behind), after whole.1)
 
-      pub end_stepped : IsReady (g.site a) (table_alone (g.table e)) (g.area e) (known k) → StoreSteps g (command.Delete u) a m e k (Ok y)
-      end_stepped ready = record {
+      pub later_stepped : Passes e → IsReady (g.site a) (table_alone (g.table e)) (g.area e) (known k) → StoreSteps g c a m e k (Ok y)
+      later_stepped whole ready = record {
         reply = ended t.reply;
         ready = ready;
         settled = λ yes settles. x.settled fine (t.settled yes settles);
-        crash = crash;
-        logged = logged;
+        crash = later_crash;
+        logged = later_logged;
+        passes = whole;
       }
+
+  -- ---- a log goes behind it
+
+  module _ {b e : S} {n k : Memory} {ok : Type 0} {most : ℕ} (u : List ℕ) (y : Reply) (passes : refusal (store_state g a m).shape (command.Delete u) ≡ None) (t : StoreTakes g (command.Delete u) a m b n (Ok y)) (site : g.site b ≡ g.site a) (logs : n.logs ≡ m.logs)
+      (x : HasChangedLogs g b n e k (without_log u n.logs) ok) (steps : StepsOn g most a e) where
+    aims : without_log u n.logs ≡ logs_after (store_state g a m).shape (command.Delete u)
+    unfolding logs_after shape_in
+    aims = ap (without_log u) logs
+
+    whole : Passes e
+    whole = step_passes h good (command.Delete u) steps (delete_unsplit (command.Delete u) (store_state g a m).shape u refl) (later_crash (command.Delete u) y passes t site logs aims x) (later_logged (command.Delete u) y passes t site logs aims x)
+
+    pub end_stopped : (f : Failed) → StoreSteps g (command.Delete u) a m e k (Err f)
+    end_stopped f = later_stopped (command.Delete u) y passes t site logs aims x whole f
+
+    -- it succeeded
+    pub end_stepped : ok → (y ≡ No NoMemory → ⊥) → g.site e ≡ g.site a
+        → shape_in (g.site a) (table_alone (g.table e)) (known k) ≡ with_logs (without_log u m.logs) (of_log (λ l. 1) (log_of u m.logs)) (shape_in (g.site a) (table_alone (g.table b)) (known n))
+        → IsReady (g.site a) (table_alone (g.table e)) (g.area e) (known k) → StoreSteps g (command.Delete u) a m e k (Ok y)
+    unfolding logs_after log_commits shape_in
+    end_stepped fine rich site_end shaped ready = later_stepped (command.Delete u) y passes t site logs aims x fine rich site_end shaped whole ready
 
 -- ---- marks, and what the session tells of a write besides
 
@@ -388,17 +445,20 @@ same_puts m logs v at bytes x y p = record { works = p.works; places = p.places 
 module _ {u : List ℕ} {sector count : ℕ} {S : Type 0} {g : Ghosts S} {a b : S} (m : Memory) where
   -- marks alone
   pub marks_puts : (c : Command) → IsWriteOf c u sector count → WorksOn g (Cbt u) a b → MarksAndWritesIts g m c a b
-  marks_puts c (inl w) works = subst (λ (k : Command). MarksAndWritesIts g m k a b) (sym w.1) (b, works, writes_none g m (command.Write u sector w.0) b)
-  marks_puts c (inr w) works = subst (λ (k : Command). MarksAndWritesIts g m k a b) (sym w.1) (b, works, writes_none g m (command.Fill u sector count w.0) b)
+  marks_puts c (inl w) works = subst (λ (k : Command). MarksAndWritesIts g m k a b) (sym w.1) (b, works, inl refl)
+  marks_puts c (inr w) works = subst (λ (k : Command). MarksAndWritesIts g m k a b) (sym w.1) (b, works, inl refl)
 
   -- marks, and then the write
-  pub marks_then : (c : Command) (n : Memory) (e : S) → IsWriteOf c u sector count → WorksOn g (Cbt u) a b → n ≡ record m { logs = on_log u (touched sector count) m.logs } → WritesOnlyIts g n c b e → MarksAndWritesIts g m c a e
-  marks_then c n e (inl w) works mem puts =
+  pub marks_then : (c : Command) (n : Memory) (e : S) → IsWriteOf c u sector count → WorksOn g (Cbt u) a b → n ≡ record m { logs = on_log u (touched sector count) m.logs }
+      → (g.told → IsReadyStore g a m → IfSome (log_of u m.logs) (IsWithinLog sector count) → IsReadyStore g b n) → WritesOnlyIts g n c b e → MarksAndWritesIts g m c a e
+  marks_then c n e (inl w) works mem last puts =
       let p : WritesOnlyIts g (record m { logs = on_log u (touched sector count) m.logs }) (command.Write u sector w.0) b e = subst (λ (k : Memory). WritesOnlyIts g k (command.Write u sector w.0) b e) mem (subst (λ (k : Command). WritesOnlyIts g n k b e) w.1 puts) in
-      subst (λ (k : Command). MarksAndWritesIts g m k a e) (sym w.1) (b, works, same_puts m _ u sector w.0 b e p)
-  marks_then c n e (inr w) works mem puts =
+      let l : MarksLast g m u sector count a b = subst (λ (k : Memory). g.told → IsReadyStore g a m → IfSome (log_of u m.logs) (IsWithinLog sector count) → IsReadyStore g b k) mem last in
+      subst (λ (k : Command). MarksAndWritesIts g m k a e) (sym w.1) (b, works, inr (subst (λ (k : ℕ). MarksLast g m u sector k a b) w.2 l, same_puts m _ u sector w.0 b e p))
+  marks_then c n e (inr w) works mem last puts =
       let p : WritesOnlyIts g (record m { logs = on_log u (touched sector count) m.logs }) (command.Fill u sector count w.0) b e = subst (λ (k : Memory). WritesOnlyIts g k (command.Fill u sector count w.0) b e) mem (subst (λ (k : Command). WritesOnlyIts g n k b e) w.1 puts) in
-      subst (λ (k : Command). MarksAndWritesIts g m k a e) (sym w.1) (b, works, same_puts m _ u sector _ b e p)
+      let l : MarksLast g m u sector count a b = subst (λ (k : Memory). g.told → IsReadyStore g a m → IfSome (log_of u m.logs) (IsWithinLog sector count) → IsReadyStore g b k) mem last in
+      subst (λ (k : Command). MarksAndWritesIts g m k a e) (sym w.1) (b, works, inr (l, same_puts m _ u sector _ b e p))
 
 -- ---- behind a deletion
 
@@ -429,13 +489,34 @@ no_marks g m _ a b no_write no_fill = tt
 
 -- nothing was put
 pub nothing_put : {S : Type 0} (g : Ghosts S) (m : Memory) (c : Command) (a : S) → MarksAndWritesIts g m c a a
-nothing_put g m (command.Write u sector bytes) a = (a, works_none (Cbt u) a, writes_none g m (command.Write u sector bytes) a)
-nothing_put g m (command.Fill u sector count byte) a = (a, works_none (Cbt u) a, writes_none g m (command.Fill u sector count byte) a)
+nothing_put g m (command.Write u sector bytes) a = (a, works_none (Cbt u) a, inl refl)
+nothing_put g m (command.Fill u sector count byte) a = (a, works_none (Cbt u) a, inl refl)
 nothing_put g m _ a = tt
 
 -- a refused command does nothing
-pub refused_stepped : {S : Type 0} {g : Ghosts S} {a : S} {m : Memory} → IsTold g a m → (c : Command) (x : Refusal) → refusal (store_state g a m).shape c ≡ Some x → StoreSteps g c a m a m (Ok (No x))
+pub refused_stepped : {S : Type 0} {g : Ghosts S} {a : S} {m : Memory} → IsTold g a m → ∥ AreGoodLogs (store_state g a m).shape ∥₁ → (c : Command) (x : Refusal) → refusal (store_state g a m).shape c ≡ Some x → StoreSteps g c a m a m (Ok (No x))
 unfolding tracked_step
-refused_stepped {S} {g} {a} {m} h c x is =
+refused_stepped {S} {g} {a} {m} h good c x is =
     let w : StoreTakesTo (tracked_step (store_state g a m) c) g c a m a m (Ok (No x)) = taken_refused h c x (ap (λ (r : Option Refusal). tracked_unless r (store_state g a m) c) is) in
-    record { reply = w.reply; ready = w.ready; settled = w.settled; crash = w.crash; logged = λ v image l u. inr (inl (w.logged v image l u)) }
+    let logged : Logs h good a c = still_logged h good m c refl w.logged in
+    record {
+      reply = w.reply;
+      ready = w.ready;
+      settled = w.settled;
+      crash = w.crash;
+      logged = logged;
+      passes = step_passes h good c (stays_steps (stays_none a) (λ told. h.now)) (λ passes. absurd (none-some x (sym passes ∙ is))) w.crash logged;
+    }
+
+-- where memory is wanting before anything was done, nothing was
+pub poor_stepped : {S : Type 0} {g : Ghosts S} {a : S} {m : Memory} → IsTold g a m → ∥ AreGoodLogs (store_state g a m).shape ∥₁ → (c : Command) → StoreSteps g c a m a m (Ok (No NoMemory))
+poor_stepped {S} {g} {a} {m} h good c =
+    let w : StoreTakesTo (tracked_step (store_state g a m) c) g c a m a m (Ok (No NoMemory)) = taken_poor h c m (reads_none a) (λ t image left. left) refl in
+    record {
+      reply = w.reply;
+      ready = w.ready;
+      settled = w.settled;
+      crash = w.crash;
+      logged = still_logged h good m c refl w.logged;
+      passes = λ v image left. (kept_passes h good v image left).passes;
+    }

@@ -1,10 +1,14 @@
 -- The commands of guests, what a command puts, and how many commits it makes at most.
-use Rattle.std.specs.Prelude.{ℕ, ◌*◌, Bool, true, false, List, replicate, ⊤}
+use Rattle.std.specs.Prelude.{◌≡◌, ◌⊎◌, ℕ, ◌*◌, ◌/◌, Bool, true, false, IfSome, List, length, replicate, ⊤}
 use Rattle.sm_base.specs.declared.names.Name.TheVariants.{Cbt}
 use Rattle.vg_volumes.specs.Stored.{WorksOn}
 use Rattle.vg_volumes.specs.declared.stores.Store.{Ghosts}
+use Rattle.sm_cbt.specs.Marks.{IsWithinLog}
+use Rattle.sm_log.specs.Logs.{log_of, on_log, touched}
+use Rattle.sm_machine.specs.Disks.{sector_bytes}
 use Rattle.sm_machine.specs.declared.commands.Command.{Command}
 use Rattle.sm_machine.specs.declared.commands.Command.TheVariants.{Create, Delete, Attach, Detach, Snapshot, Clone, Resize, Write, Fill, Read, Flush, Gc}
+use Rattle.sm_ready.specs.Sessions.{IsReadyStore}
 use Rattle.sm_ready.specs.declared.memory.Memory.{Memory}
 use Rattle.cmd_guest.specs.Writing.{WritesOnly}
 
@@ -24,14 +28,21 @@ WritesOnlyIts g m (Write u sector bytes) old new = WritesOnly g m u sector bytes
 WritesOnlyIts g m (Fill u sector count byte) old new = WritesOnly g m u sector (replicate (512 * count) byte) old new
 WritesOnlyIts g m _ old new = ⊤
 
--- a command of a guest behind marks in its disk's log: the log's volume alone is worked on first, and then as `WritesOnlyIts` says
-abbrev pub MarksAndWrites : {S : Type 0} → Ghosts S → Memory → List ℕ → Command → S → S → Type 0
-MarksAndWrites {S} g m u c old new = (mid : S) × WorksOn g (Cbt u) old mid × WritesOnlyIts g m c mid new
+-- marks last: in a store whose sectors were as memory says, with a log that has the pieces, they are as memory with the marks says, and of the log
+-- nothing is pending
+abbrev pub MarksLast : {S : Type 0} → Ghosts S → Memory → List ℕ → ℕ → ℕ → S → S → Type 0
+MarksLast g m u sector count old mid = g.told → IsReadyStore g old m → IfSome (log_of u m.logs) (IsWithinLog sector count)
+    → IsReadyStore g mid (record m { logs = on_log u (touched sector count) m.logs })
 
--- a guest's write or fill marks first in its disk's log, and then works as `WritesOnlyIts` says; of another command this says nothing
+-- a command of a guest behind marks in its disk's log: the log's volume alone is worked on first; and where that was not all, the marks last, and
+-- then it is as `WritesOnlyIts` says
+abbrev pub MarksAndWrites : {S : Type 0} → Ghosts S → Memory → List ℕ → ℕ → ℕ → Command → S → S → Type 0
+MarksAndWrites {S} g m u sector count c old new = (mid : S) × WorksOn g (Cbt u) old mid × ((mid ≡ new) ⊎ (MarksLast g m u sector count old mid × WritesOnlyIts g m c mid new))
+
+-- a guest's write or fill marks first in its disk's log, so that the marks last, and then works as `WritesOnlyIts` says; of another command this says nothing
 abbrev pub MarksAndWritesIts : {S : Type 0} → Ghosts S → Memory → Command → S → S → Type 0
-MarksAndWritesIts g m (Write u sector bytes) old new = MarksAndWrites g m u (Write u sector bytes) old new
-MarksAndWritesIts g m (Fill u sector count byte) old new = MarksAndWrites g m u (Fill u sector count byte) old new
+MarksAndWritesIts g m (Write u sector bytes) old new = MarksAndWrites g m u sector (length bytes / sector_bytes) (Write u sector bytes) old new
+MarksAndWritesIts g m (Fill u sector count byte) old new = MarksAndWrites g m u sector count (Fill u sector count byte) old new
 MarksAndWritesIts g m _ old new = ⊤
 
 -- a new disk is made and then unmarked; one that goes is removed; the image of one that is attached, or that gets larger while it is

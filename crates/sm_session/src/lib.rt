@@ -2,26 +2,31 @@
 //! it.
 //!
 //! **What is kept here.** A [`Session`] has a store of volumes and what is in memory of it: the images, the places of the
-//! records, the logs of tracked disks (there are none yet), the attachments and what the collector does; a buffer of a block and its bitmap; a number for each image that there
+//! records, the logs of tracked disks, the attachments and what the collector does; a buffer of a block and its bitmap; a number for each image that there
 //! may be, in which its children are counted; and whether a step has failed.
 //! Sizes in commands and replies are in bytes, those in the table in extents, places in sectors.
 //!
 //! **The model** is that of `sm_ready`: the machine's disks are those that a read gives, its shape is that of what is in
-//! memory (`store_state`); what a stop may show (`MayShow`), that whatever it leaves is kept (`KeepsAll`), and what a command
-//! did (`StoreTakes`).
+//! memory (`store_state`); what a stop may show (`MayShow`), and that whatever it leaves is kept and passes the check of logs (`KeepsAll`). What
+//! a command did is told with what it does to logs (`StoreSteps` in `specs/`).
 //!
 //! **What it promises.** [`Session`] steps as a run asks (`Steps` of `sm_run`): each reply is the machine's, or want of
-//! memory; at every return, success and failure alike, whatever a stop leaves is kept and shows the disks from before
+//! memory; at every return, success and failure alike, whatever a stop leaves is kept, passes the check of logs and shows the disks from before
 //! the step or those from after it; a refused step makes no write and no sync; behind an accepted one that makes all last nothing
 //! is pending (`is_settling`), and the bytes of a write or a fill may be lost until then. A new disk takes the least free extents, in
 //! rising order; and a step raises the sequence number by so many commits at most, whether it does its work or not
-//! (`most_commits`). No call changes what stands beside the store.
+//! (`most_commits`, and for logs `most_log_commits`). No call changes what stands beside the store.
 //!
 //! The commands are those that make disks, also of one another, give them up, rename, resize and list them, the one that tells
 //! of the images, those of guests (`is_guests`): a disk comes into use and goes out of it, and its sectors are read, written,
 //! filled and made last; and the collector's. Why a command is refused is asked once, of `refuse` (`sm_refusals`), before the command
 //! is carried out: so a command's crate is called only where no cause was found. Between two steps each image in memory is true of
 //! its volume, whether or not the device was kept when it was opened: so a guest may always read and write.
+//!
+//! **Logs of tracked disks.** A write or a fill marks its pieces first, and the marks last before it begins; the log of a deleted disk goes behind the
+//! disk; and a snapshot of a tracked disk has a log, with the bits so far, and the disk's begins anew (`sm_tracking`). What a split needs is taken
+//! before the snapshot. Whatever a stop leaves has of each disk, by itself, the log from before the step, the one from after it, or one between. No clause says yet
+//! that the log of a deleted disk goes behind the disk, or that the snapshot comes before the split.
 //!
 //! **The collector.** A step of it is the machine's next one, by table and memory (`gc_plan`). Each kind of step is a function of its
 //! own (`gc_coalesce`; `swap` of `gc_leaf`; `deflate` of `sm_space`): an image that nothing reads through is removed, a volume is cut

@@ -1,6 +1,6 @@
 //! A repository that is open, and its steps.
 
-ghost use Rattle.std.specs.Prelude.{◌≡◌, ◌≢◌, ◌≤◌, ◌<◌, ◌+◌, ◌*◌, ◌⊎◌, [], None, false, IfOk, IfErr, length};
+ghost use Rattle.std.specs.Prelude.{◌≡◌, ◌≢◌, ◌≤◌, ◌<◌, ◌+◌, ◌*◌, ◌⊎◌, None, false, IfOk, IfErr, length};
 ghost use Rattle.std.proofs.Props.{props};
 ghost use Rattle.sm_base.specs.declared.faults.OpenFault.TheVariants.{Device};
 ghost use Rattle.sm_disk.specs.Held.{IsSettled, Keeps};
@@ -8,9 +8,8 @@ ghost use Rattle.vg_meta.specs.Roomy.{table_alone};
 ghost use Rattle.vg_volumes.specs.Commits.{current_version};
 ghost use Rattle.sm_machine.specs.Shapes.{image_limit};
 ghost use Rattle.sm_recover.specs.Ending.{HasFewEnds};
-ghost use Rattle.sm_checks.specs.Openable.{IsOpeningStopped};
 ghost use Rattle.sm_recover.specs.Repairs.{UnlessDeviceFailed};
-ghost use Rattle.sm_recover.specs.Stores.{MayBeRepairedFrom};
+ghost use Rattle.sm_recover.specs.Stores.{IsOpeningStopped, MayBeRepairedFrom};
 ghost use Rattle.vg_volumes.specs.Stored.{OnlyReads, Leaves};
 ghost use Rattle.sm_machine.specs.Tracking.{AreGoodLogs};
 ghost use Rattle.sm_ready.specs.Does.{store_shape};
@@ -20,9 +19,9 @@ ghost use Rattle.sm_ready.specs.Proper.{IsBetweenSteps-prop};
 ghost use Rattle.sm_ready.specs.Sessions.{IsAtEase, IsReadyStore, KeepsAll, store_state};
 ghost use Rattle.sm_ready.specs.Stores.{MayShow, StoreLeaves, content_in, store_content};
 ghost use Rattle.sm_run.specs.Runs.{BeginsSettled};
-ghost use Rattle.sm_standing.specs.Checks.{first_fault};
+ghost use Rattle.sm_standing.specs.Dropped.{opening};
 ghost use Rattle.sm_standing.specs.Keeping.{HoldsWell};
-ghost use Rattle.sm_standing.specs.Opened.{opened};
+ghost use Rattle.sm_standing.specs.LogChecks.{first_place};
 ghost use Rattle.sm_standing.specs.Standing.{disks};
 
 use crate::taking::take;
@@ -51,8 +50,6 @@ pub struct Session<S: Store> {
     now: u32,
     // While no step has failed, store and memory are as they are between two steps.
     ghost between: { broken ≡ false → IsBetweenSteps S.Store store memory } by { Prim.hlevel (props, IsBetweenSteps-prop) },
-    // No disk is tracked.
-    ghost untracked: { memory.logs ≡ [] } by { Prim.hlevel props },
     // A buffer is free, and the children of as many images can be counted as there may be.
     ghost buffer: { (0 < pool.free) × (512 * (1 + (S.site store).geometry.block) ≤ pool.bytes) },
     ghost child_counts: { image_limit ≤ length children },
@@ -84,14 +81,14 @@ impl<S: Store> Session<S> {
         ensures whole { IfOk result (λ s. s.broken ≡ false) }
         ensures now { IfOk result (λ s. s.now ≡ now) }
         ensures ease { IfOk result (λ s. IsAtEase s.memory) }
-        ensures sound { IfOk result (λ s. S.told → first_fault (store_content S.Store store) ≡ None) }
+        ensures sound { IfOk result (λ s. S.told → first_place (store_content S.Store store) ≡ None) }
         ensures ready { IfOk result (λ s. S.told → HoldsWell (store_content S.Store store) → IsReadyStore S.Store s.store s.memory) }
         ensures good_logs { IfOk result (λ s. ∥ AreGoodLogs (store_shape S.Store s.store s.memory) ∥₁) }
         ensures settled { IfOk result (λ s. S.told → IsSettled (S.area s.store)) }
         ensures disks { IfOk result (λ s. S.told → HoldsWell (store_content S.Store store) → disks (store_content S.Store s.store)
             ≡ disks (store_content S.Store store)) }
         ensures opened { IfOk result (λ s. S.told → HoldsWell (store_content S.Store store)
-            → shape_in (S.site s.store) (table_alone (S.table s.store)) (known s.memory) ≡ opened (store_content S.Store store)) }
+            → shape_in (S.site s.store) (table_alone (S.table s.store)) (known s.memory) ≡ opening (store_content S.Store store)) }
         ensures kept { IfOk result (λ s. S.told → HoldsWell (store_content S.Store store) → KeepsAll (S.site s.store) (StoreLeaves S.Store s.store)) }
         ensures begins { IfOk result (λ s. S.told → HoldsWell (store_content S.Store store)
             → BeginsSettled (store_state S.Store s.store s.memory) (MayShow (S.site s.store) (StoreLeaves S.Store s.store))) }
@@ -103,7 +100,7 @@ impl<S: Store> Session<S> {
         ensures few_left { IfErr result (λ e. Leaves S.Store e.1 (λ t image. HasFewEnds (table_alone (S.table store)) t)) }
         ensures cause { IfErr result (λ e. IsOpeningStopped S.told (store_content S.Store store) (S.faults store) (S.faults e.1) e.0) }
         ensures refused { IfErr result (λ e. UnlessDeviceFailed e.0 (OnlyReads S.Store store e.1)) }
-        ensures unsound_back { IfErr result (λ e. S.told → (first_fault (store_content S.Store store) ≡ None → ⊥) → Keeps (S.device store) (S.device e.1)) }
+        ensures unsound_back { IfErr result (λ e. S.told → (first_place (store_content S.Store store) ≡ None → ⊥) → Keeps (S.device store) (S.device e.1)) }
         ensures crash_back { IfErr result (λ e. Leaves S.Store e.1 (λ t image. S.leaves store t image
             ⊎ MayBeRepairedFrom (store_content S.Store store) (content_in (S.site store) t image))) }
     {

@@ -25,10 +25,10 @@ ghost use Rattle.sm_session.specs.Stepped.{StoreSteps};
 ghost use Rattle.sm_machine.specs.Tracking.{AreGoodLogs, logs_after};
 
 use crate::collecting::gc;
-use crate::forks::derive;
+use crate::forks::{derive, snapshot};
 use crate::guests::serve;
 use crate::sizes::raise;
-use crate::tracking::{mark, untrack};
+use crate::tracking::untrack;
 use cmd_change::{delete, label};
 use cmd_create::{create, create_vhd};
 use cmd_list::{list, stat};
@@ -38,6 +38,7 @@ use sm_machine::{Command, Reply};
 use sm_pool::Pool;
 use sm_ready::Memory;
 use sm_refusals::refuse;
+use sm_tracking::mark;
 use std::alloc::Global;
 use vg_volumes::Store;
 
@@ -108,8 +109,8 @@ fn carry_out<S: Store>(
     }
 }
 
-/// Carries out a command that no cause refuses, with what it does to the log of its disk: pieces are marked before they are written, and a deleted disk's
-/// log goes behind the disk. `now` is the stamp of an image that it makes.
+/// Carries out a command that no cause refuses, with what it does to the log of its disk: pieces are marked before they are written, a deleted disk's
+/// log goes behind the disk, and the log of a disk is split behind its snapshot. `now` is the stamp of an image that it makes.
 fn carry_tracked<S: Store>(
     alloc: Global,
     store: &mut S,
@@ -128,7 +129,7 @@ fn carry_tracked<S: Store>(
     ensures pool { pool.new ≡ pool.old }
     ensures children { length children.new ≡ length children.old }
     ensures session_still { OnOk result (IsBetweenSteps S.Store store.new memory.new) }
-    ensures logs { (memory.new.logs ≡ memory.old.logs) ⊎ (memory.new.logs ≡ logs_after (store_shape S.Store store.old memory.old) command.now) }
+    ensures logs { OnOk result ((memory.new.logs ≡ memory.old.logs) ⊎ (memory.new.logs ≡ logs_after (store_shape S.Store store.old memory.old) command.now)) }
     ensures refused { IfOk result (λ r. is_accepted r ≡ false → (t : VolumeTable) (image : ℕ → List ℕ) → S.leaves store.new t image → S.leaves store.old t image) }
     ensures spared { IfOk result (λ r. r ≡ No NoMemory → may_want_memory (store_shape S.Store store.old memory.old) command.now ≡ true) }
     ensures poor { IfOk result (λ r. (x : Refusal) → r ≡ No x → x ≡ NoMemory) }
@@ -166,6 +167,7 @@ fn carry_tracked<S: Store>(
             untrack(store, memory, disk)?;
             Ok(reply)
         }
+        Command::Snapshot { disk, twin } => snapshot(alloc, store, memory, disk, twin, now),
         _ => carry_out(alloc, store, memory, pool, children, command, now),
     }
 }
@@ -189,7 +191,7 @@ pub fn take<S: Store>(
     ensures pool { pool.new ≡ pool.old }
     ensures children { length children.new ≡ length children.old }
     ensures session_still { OnOk result (IsBetweenSteps S.Store store.new memory.new) }
-    ensures logs { (memory.new.logs ≡ memory.old.logs) ⊎ (memory.new.logs ≡ logs_after (store_shape S.Store store.old memory.old) command.now) }
+    ensures logs { OnOk result ((memory.new.logs ≡ memory.old.logs) ⊎ (memory.new.logs ≡ logs_after (store_shape S.Store store.old memory.old) command.now)) }
     ensures refused { IfOk result (λ r. is_accepted r ≡ false → (t : VolumeTable) (image : ℕ → List ℕ) → S.leaves store.new t image → S.leaves store.old t image) }
     ensures spared { IfOk result (λ r. r ≡ No NoMemory → may_want_memory (store_shape S.Store store.old memory.old) command.now ≡ true) }
     ensures untouched { IfOk result (λ r. is_accepted r ≡ false → OnlyReads S.Store store.old store.new × (memory.new ≡ memory.old)) }

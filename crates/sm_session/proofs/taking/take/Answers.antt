@@ -17,7 +17,7 @@ pub returns-in-Some-clause-taken : goal.returns-in-Some-clause-taken
 returns-in-Some-clause-taken g c = λ told ready good.
     let is = (rw c.table.ensures.table at c.in-Some.ensures.exact) (g.S.Store.site c.args.store.now) (record { same_sizes = sym c.geometry-geometry.ensures; same_count = sym c.extents-extents.ensures.count }) c.requires.session.orderly c.requires.session.tidy in
     let h = is_told g.S.Store c.args.store.now c.args.memory.now c.requires.session.orderly c.requires.session.usable told ready (g.met.S.Store.leaves_now c.args.store.now told c.requires.session.usable) in
-    refused_stepped h _ _ (sym is)
+    refused_stepped h good _ _ (sym is)
 
 pub carry_tracked-requires-clause-allowed : goal.carry_tracked-requires-clause-allowed
 carry_tracked-requires-clause-allowed g c =

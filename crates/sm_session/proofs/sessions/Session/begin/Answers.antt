@@ -1,7 +1,7 @@
-use Rattle.sm_ready.proofs.ShowLaws.{kept_ready, settled_ready}
+use Rattle.sm_ready.proofs.ShowLaws.{settled_ready}
 use Rattle.sm_ready.proofs.TakenLaws.{is_told}
 use Rattle.sm_recover.proofs.TakenOver.{one_table}
-use Rattle.sm_session.proofs.GoodLaws.{good_without}
+use Rattle.sm_session.proofs.PassLaws.{kept_passes}
 use Rattle.sm_session.proofs.sessions.Session.begin.Goals as goal
 
 pub returns-in_default-clause-few_left : goal.returns-in_default-clause-few_left
@@ -15,12 +15,9 @@ returns-in_default-new-clause-few_left g c = λ told.
 pub returns-in-Ok-settle-clause-kept : goal.returns-in-Ok-settle-clause-kept
 returns-in-Ok-settle-clause-kept g c = λ told holding.
     let e = c.in-Ok-settle.ensures in
-    kept_ready (is_told g.S.Store c.settle.new.store c.in-Ok-settle.memory e.orderly e.usable_still told (e.ready told holding) (g.met.S.Store.leaves_now c.settle.new.store told e.usable_still))
+    kept_passes (is_told g.S.Store c.settle.new.store c.in-Ok-settle.memory e.orderly e.usable_still told (e.ready told holding) (g.met.S.Store.leaves_now c.settle.new.store told e.usable_still)) e.good_logs
 
 pub returns-in-Ok-settle-clause-begins : goal.returns-in-Ok-settle-clause-begins
 returns-in-Ok-settle-clause-begins g c = λ told holding.
     let e = c.in-Ok-settle.ensures in
     settled_ready (is_told g.S.Store c.settle.new.store c.in-Ok-settle.memory e.orderly e.usable_still told (e.ready told holding) (g.met.S.Store.leaves_now c.settle.new.store told e.usable_still)) (e.settled told)
-
-pub returns-in-Ok-settle-clause-good_logs : goal.returns-in-Ok-settle-clause-good_logs
-returns-in-Ok-settle-clause-good_logs g c = good_without g.S.Store c.settle.new.store c.in-Ok-settle.memory c.in-Ok-settle.ensures.untracked

@@ -10,18 +10,18 @@ use Rattle.sm_ready.proofs.ShowLaws.{faces_ready, settled_ready}
 use Rattle.sm_ready.proofs.TakenLaws.{IsTold, is_told}
 use Rattle.sm_session.proofs.sessions.SessionSteps.step.Given.{Over}
 use Rattle.std.proofs.lemmas.Bool.{true≢false}
-use Rattle.sm_session.proofs.GoodLaws.{good_stepped, still_without}
+use Rattle.sm_session.proofs.GoodLaws.{good_stepped}
 use Rattle.sm_session.proofs.sessions.SessionSteps.step.Goals as goal
 
 pub returns-in-Ok-clause-kept : goal.returns-in-Ok-clause-kept
 returns-in-Ok-clause-kept g c = λ told ready.
     let e = c.take-taken.ensures in
-    subst (λ s. KeepsAll s (StoreLeaves g.S.Store c.take-taken.new.store)) (sym e.step.site) (λ t image l. ((e.taken told ready.1 ready.2).crash t image l).0)
+    subst (λ s. KeepsAll s (StoreLeaves g.S.Store c.take-taken.new.store)) (sym e.step.site) (λ t image l. let k = e.taken told ready.1 ready.2 in record { kept = (k.crash t image l).0; passes = k.passes t image l })
 
 pub returns-in-Err-clause-kept : goal.returns-in-Err-clause-kept
 returns-in-Err-clause-kept g c = λ told ready.
     let e = c.take-taken.ensures in
-    subst (λ s. KeepsAll s (StoreLeaves g.S.Store c.take-taken.new.store)) (sym e.step.site) (λ t image l. ((e.taken told ready.1 ready.2).crash t image l).0)
+    subst (λ s. KeepsAll s (StoreLeaves g.S.Store c.take-taken.new.store)) (sym e.step.site) (λ t image l. let k = e.taken told ready.1 ready.2 in record { kept = (k.crash t image l).0; passes = k.passes t image l })
 
 -- after a step that succeeded
 told_after : (g : Over) (c : goal.In-Ok g) (told : g.S.Store.told) (ready : IsReadyStore g.S.Store c.args.self.now.store c.args.self.now.memory) (good : ∥ AreGoodLogs (store_shape g.S.Store c.args.self.now.store c.args.self.now.memory) ∥₁) → IsTold g.S.Store c.take-taken.new.store c.take-taken.new.memory
@@ -46,7 +46,6 @@ invariant_of-self g c =
     let was = c.args.self.now in
     record {
       between = λ whole. c.in-Ok.ensures.session_still;
-      untracked = still_without g.S.Store was.store was.memory c.take-taken.new.memory c.args.command.now was.untracked e.logs;
       buffer = rw (e.pool, e.step.site) was.buffer;
       child_counts = rw e.children was.child_counts;
     }
@@ -57,7 +56,6 @@ invariant_of-self-in-Err g c =
     let was = c.args.self.now in
     record {
       between = λ whole. absurd (true≢false whole);
-      untracked = still_without g.S.Store was.store was.memory c.take-taken.new.memory c.args.command.now was.untracked e.logs;
       buffer = rw (e.pool, e.step.site) was.buffer;
       child_counts = rw e.children was.child_counts;
     }
