@@ -9,7 +9,7 @@ use Rattle.sm_disk.specs.Held.{Held, reads}
 use Rattle.sm_machine.specs.Steps.{State}
 use Rattle.sm_run.specs.declared.runs.RunFault.{RunFault}
 use Rattle.sm_run.specs.declared.runs.RunFault.TheVariants as run
-use Rattle.sm_standing.specs.Checks.{first_fault}
+use Rattle.sm_standing.specs.LogChecks.{first_place}
 use Rattle.sm_standing.specs.Devices.{content_of}
 use Rattle.vg_layout.specs.Opening.{GroupFound, StandsOn, IsRefused, by_label, by_header, by_sum, by_text, grammar_of, plate_of, pointer_of, text_in, version_of}
 use Rattle.vg_layout.specs.Sectors.{Plate, Pointer}
@@ -48,9 +48,9 @@ stands_or_refused size image g _ s (by_text p h place labelled headed summed dam
     (subst₂ (λ (q : Plate) (k : Pointer). IsDamagedBy (grammar_of (version_of image)) q.count (text_in image k) place) plates pointers damaged)
 
 none_found : (size : ℕ) (image : ℕ → List ℕ) (g h : GroupFound) (p : Place) → StandsOn size image g → StandsOn size image h
-    → first_fault (content_of g image) ≡ None → first_fault (content_of h image) ≡ Some p → ⊥
+    → first_place (content_of g image) ≡ None → first_place (content_of h image) ≡ Some p → ⊥
 none_found size image g h p a b sound found =
-    let both : None ≡ Some p = sym sound ∙ ap first_fault (sym (content_once size image g h a b)) ∙ found in
+    let both : None ≡ Some p = sym sound ∙ ap first_place (sym (content_once size image g h a b)) ∙ found in
     absurd cc
 
 -- where all checks pass, none fails
@@ -95,9 +95,9 @@ group_once size image _ _ (by_text p h place a x right damaged) (by_sum q k b y 
 group_once size image _ _ (by_text p h place a x right damaged) (by_text q k other b y right' damaged') = ap (λ n. Damaged (Table n)) (one_text size image p q h k place other a b x y damaged damaged')
 
 one_place : (size : ℕ) (image : ℕ → List ℕ) (g h : GroupFound) (p q : Place) → StandsOn size image g → StandsOn size image h
-    → first_fault (content_of g image) ≡ Some p → first_fault (content_of h image) ≡ Some q → p ≡ q
+    → first_place (content_of g image) ≡ Some p → first_place (content_of h image) ≡ Some q → p ≡ q
 one_place size image g h p q a b found other =
-    let both : Some p ≡ Some q = sym found ∙ ap first_fault (content_once size image h g b a) ∙ other in
+    let both : Some p ≡ Some q = sym found ∙ ap first_place (content_once size image h g b a) ∙ other in
     (let x = both in cc)
 
 -- a device is refused with one answer alone

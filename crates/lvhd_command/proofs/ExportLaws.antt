@@ -49,7 +49,7 @@ use Rattle.lvhd_command.specs.Devices.{IsKeptDevice, IsOneTable, IsOpenedOn, IsS
 use Rattle.lvhd_command.specs.Exporting.{ContentSaid, ContentSent, ExportSent, ExportSaid, IsContentFile, IsFileOf, IsAsOpened, IsNotOpened, IsUnknown, LacksDisk, StandsAs, StandsOpened, export_status, unknown_line}
 use Rattle.lvhd_command.specs.Running.{HasSaid, HasStayed, HasTold, IsGivenBack, RunSides, ToldOf}
 use Rattle.lvhd_command.proofs.ExactLaws.{sound_or_refused}
-use Rattle.lvhd_command.proofs.OpenLaws.{content_once, kept_device, kept_sound, shown_device}
+use Rattle.lvhd_command.proofs.OpenLaws.{content_once, kept_device, kept_sound, place_first, shown_device}
 use Rattle.lvhd_command.proofs.RunLaws.{IsStateWith, fewer_after, reads_as}
 
 -- ---- the disk of a UUID, by what is in memory
@@ -149,7 +149,7 @@ file_of s c u now bytes h early file =
       file = file;
       holds = export-holds s.size (reads s.new) file.disk bytes (record {
         group = on.group;
-        sound = record { sectors = λ p below. IsSector-reads h.sectors p below; stands = on.stands; sound = ap first_fault same ∙ sound.sound };
+        sound = record { sectors = λ p below. IsSector-reads h.sectors p below; stands = on.stands; sound = ap first_fault same ∙ place_first (content_of sound.group (reads s.new)) sound.sound };
         disk = subst (λ (x : Content). In file.disk (disks x)) on.content_is file.there;
         now = now;
         early = early;

@@ -26,8 +26,10 @@ use Rattle.vg_layout.specs.Opening.{GroupFound, StandsOn, text_in}
 use Rattle.vg_layout.proofs.ImageLaws.{plate_apart, plate_area, plate_few, plate_same, pointer_front, spells_same, stands_from, stands_once, text_front}
 use Rattle.vg_store.specs.Formats.{IsFormatted, new_group}
 use Rattle.vg_volumes.specs.Volumes.{piece, spot}
-use Rattle.sm_standing.specs.Checks.{is_entry_linked, is_lost, is_damaged, is_invalid, is_misnamed, is_tree_wrong}
+use Rattle.sm_standing.specs.Checks.{first_name, is_entry_linked, is_lost, is_damaged, is_invalid, is_misnamed, is_tree_wrong}
+use Rattle.sm_standing.specs.Dropped.{dropped, opening}
 use Rattle.sm_standing.specs.Images.{image_of}
+use Rattle.sm_standing.specs.LogChecks.{log_fault}
 use Rattle.sm_standing.specs.Logs.{logs, logs_in}
 use Rattle.sm_standing.specs.Outlines.{outline}
 use Rattle.sm_standing.specs.Contents.{Content, row, reading_at, sectors_of}
@@ -120,6 +122,11 @@ no_disks (d ∷ ds) none = absurd (none d (inl refl))
 new_disks : (c : Content) (n : ℕ) → disks (emptied c n) ≡ []
 new_disks c n = no_disks (disks (emptied c n)) (λ d h. absurd (none-some d (sym (none_stands (emptied c n) d.uuid (nowhere n d.uuid)) ∙ disks_at (emptied c n) d h)))
 
+-- no volume is a log
+no_logs_pass : (c : Content) (n : ℕ) → log_fault (emptied c n) ≡ None
+unfolding log_fault first_name
+no_logs_pass c n = refl
+
 -- ---- a device
 
 records_room : (extent : ℕ) → 0 < extent → 512 ≤ record_extents extent * extent
@@ -135,8 +142,11 @@ formatted_kept size image g repository f =
     record {
       group = new_group size g repository;
       stands = f.stands;
-      kept = plain_kept c (new_sound c (record_extents g.extent) (some_extent g) (records_room g.extent (some_extent g)) refl f.records)
-          (λ u i is. absurd (none-some i (sym (no_image c (record_extents g.extent) u) ∙ is)));
+      kept = record {
+        kept = plain_kept c (new_sound c (record_extents g.extent) (some_extent g) (records_room g.extent (some_extent g)) refl f.records)
+            (λ u i is. absurd (none-some i (sym (no_image c (record_extents g.extent) u) ∙ is)));
+        passes = no_logs_pass c (record_extents g.extent);
+      };
     }
 
 pub formatted_empty : (size : ℕ) (image : ℕ → List ℕ) (g : Geometry) (repository : List ℕ) → IsFormatted size image g repository → Shows size image []
@@ -221,18 +231,18 @@ device_empty size h g repository f settled ds m =
 abbrev shape_of : Content → ℕ → List Disk → Shape
 shape_of c m ds = record { sequence = 1; extent = c.extent; block = c.block; entries = c.entries; extents = c.count; others = m; records = map disk_record ds; images = []; logs = []; attached = []; op = Idle }
 
-opened_so : (c : Content) (n : ℕ) → opened (emptied c n) ≡ shape_of c (sum (length (range_with_len 0 n) ∷ [])) (disks (emptied c n))
-unfolding opened ended end_changes undone undo_changes cleaned shape image_row_of image_of logs logs_in
+opened_so : (c : Content) (n : ℕ) → opening (emptied c n) ≡ shape_of c (sum (length (range_with_len 0 n) ∷ [])) (disks (emptied c n))
+unfolding opening dropped opened ended end_changes undone undo_changes cleaned shape image_row_of image_of logs logs_in
 opened_so c n = refl
 
 records_alone : (n : ℕ) → sum (length (range_with_len 0 n) ∷ []) ≡ n
 records_alone n = let long = length-range_with_len 0 n in omega (arith, long)
 
-opened_new : (c : Content) (n : ℕ) → opened (emptied c n) ≡ new_shape c.extent c.block c.entries c.count n
+opened_new : (c : Content) (n : ℕ) → opening (emptied c n) ≡ new_shape c.extent c.block c.entries c.count n
 opened_new c n = opened_so c n ∙ ap₂ (λ m ds. shape_of c m ds) (records_alone n) (new_disks c n)
 
 opened_at : Plate → VolumeTable → (ℕ → List ℕ) → Shape
-opened_at p t image = opened (record { extent = p.extent; block = p.block; entries = p.entries; count = p.count; table = t; area = λ q. image (area_place p.layout + q) })
+opened_at p t image = opening (record { extent = p.extent; block = p.block; entries = p.entries; count = p.count; table = t; area = λ q. image (area_place p.layout + q) })
 
 -- a device that was formatted: no disks, and that shape
 pub formatted_start : (size : ℕ) (image : ℕ → List ℕ) (g : Geometry) (repository : List ℕ) (ds : List Disk) (shape : Shape) → IsFormatted size image g repository → Shows size image ds → IsOpenedOn size image shape

@@ -12,13 +12,14 @@ use Rattle.sm_machine.specs.Steps.{State}
 use Rattle.sm_ready.specs.Known.{Known}
 use Rattle.sm_ready.specs.Orderly.{IsOrderly}
 use Rattle.sm_ready.specs.Ready.{IsReady}
+use Rattle.sm_ready.specs.Sessions.{KeepsAll}
 use Rattle.sm_ready.specs.Stores.{Leaving, MayShow, content_in, content_now}
 use Rattle.sm_refusals.specs.Importing.{entry_refusal}
 use Rattle.sm_run.specs.Between.{IsBetween, IsSettledAs}
 use Rattle.sm_run.specs.Runs.{IsSpent}
 use Rattle.sm_script.specs.Pieces.{Writes}
 use Rattle.sm_standing.specs.Keeping.{IsKept}
-use Rattle.sm_standing.specs.Opened.{opened}
+use Rattle.sm_standing.specs.Dropped.{opening}
 use Rattle.sm_standing.specs.Standing.{disks}
 use Rattle.vg_meta.specs.Tables.{VolumeTable}
 use Rattle.vg_layout.specs.Places.{area_place}
@@ -122,8 +123,8 @@ module _ (size other : ℕ) (now site : Site) (held new : Held) (leaves before :
   left_before t image l = fewer t image (back.fewer t image
       (subst (λ n. LeavesGroup n new (plate_at now) t image) (sym is_size) (subst (λ (x : Site). LeavesGroup size new (plate_at x) t image) (sym same) l)))
 
-  pub kept_import : IsKeptDevice size new
-  kept_import = kept_device size new site stands_import (λ t image l. (crash t image (left_before t image l)).0)
+  pub kept_import : KeepsAll site leaves → IsKeptDevice size new
+  kept_import keeps = kept_device size new site stands_import (λ t image l. keeps t image (left_before t image l))
 
   pub shows_import : ((ds : List Disk) → MayShow site before ds → IsSettledAs was ds) → (es : List Disk) → MayShowOn size new es → IsBetween (IsSettledAs was) was ends es
   shows_import begins es m =
@@ -202,7 +203,7 @@ module _ (s s' d d' k k' : ℕ) where
 
 -- an opening makes one shape of what stands on an image
 pub opened_once : (size : ℕ) (image : ℕ → List ℕ) (a b : Shape) → IsOpenedOn size image a → IsOpenedOn size image b → a ≡ b
-opened_once size image a b x y = x.shape_is ∙ ap opened (sym (content_once size image x.group y.group x.stands y.stands)) ∙ sym y.shape_is
+opened_once size image a b x y = x.shape_is ∙ ap opening (sym (content_once size image x.group y.group x.stands y.stands)) ∙ sym y.shape_is
 
 -- what is refused at once in the shape that was opened is so in the one that the device is said to have
 pub refused_at_once : (s : RunSides) (uuid : List ℕ) (shape : Shape) → IsOpenedOn s.size (reads s.old) shape → (r : IsRefusedAtOnce s uuid) → entry_refusal shape uuid ≡ Some r.refusal

@@ -1,8 +1,11 @@
 -- What an opened device shows, and what a stop of it may show.
-use Rattle.std.proofs.Common.{◌≡◌, ◌≢◌, ◌⊎◌, inl, inr, ⊎_elim, ℕ, ◌+◌, List, None, Ok, refl, sym, ap, ap₂, subst, ◌∙◌, arith}
+use Rattle.std.proofs.Common.{◌≡◌, ◌≢◌, ◌⊎◌, inl, inr, ⊎_elim, ℕ, ◌+◌, List, [], ◌∷◌, Option, None, Ok, refl, sym, ap, ap₂, subst, ◌∙◌, arith}
 use Rattle.std.proofs.Math.Path.{fun_ext}
 use Rattle.sm_base.specs.declared.faults.OpenFault.{OpenFault}
 use Rattle.sm_base.specs.declared.faults.OpenFault.TheVariants as fault
+use Rattle.sm_base.specs.declared.faults.Place.{Place}
+use Rattle.common_laws.specs.Lists.{first_some}
+use Rattle.common_laws.proofs.Lists.{none_first}
 use Rattle.sm_disk.specs.Held.{Held, Allows, Keeps, reads}
 use Rattle.sm_disk.proofs.HeldLaws.{Allows-keeps, Allows-reads}
 use Rattle.sm_machine.specs.Disks.{Disk}
@@ -16,16 +19,16 @@ use Rattle.vg_meta.specs.Tables.{VolumeTable}
 use Rattle.vg_store.specs.Groups.{GroupStands, LeavesGroup, area_of}
 use Rattle.vg_store.specs.Openings.{IsAnswer}
 use Rattle.vg_volumes.specs.Sites.{Site}
-use Rattle.sm_checks.specs.Openable.{IsOpeningStopped}
 use Rattle.sm_recover.specs.Repairs.{UnlessDeviceFailed}
-use Rattle.sm_recover.specs.Stores.{IsRepairedFrom, MayBeRepairedFrom}
+use Rattle.sm_recover.specs.Stores.{IsOpeningStopped, IsRepairedFrom, MayBeRepairedFrom}
 use Rattle.sm_ready.specs.Sessions.{KeepsAll}
 use Rattle.sm_ready.specs.Stores.{MayShow, content_in, content_now}
 use Rattle.sm_standing.specs.Checks.{first_fault}
 use Rattle.sm_standing.specs.Contents.{Content}
 use Rattle.sm_standing.specs.Devices.{IsKeptOn, Shows, content_of}
-use Rattle.sm_standing.specs.Keeping.{HoldsWell, IsKept}
-use Rattle.sm_standing.specs.Opened.{opened}
+use Rattle.sm_standing.specs.Dropped.{opening}
+use Rattle.sm_standing.specs.Keeping.{HoldsWell}
+use Rattle.sm_standing.specs.LogChecks.{IsKeptWithLogs, first_place, log_fault}
 use Rattle.sm_machine.specs.Shapes.{Shape}
 use Rattle.sm_standing.specs.Standing.{disks}
 use Rattle.lvhd_command.specs.Devices.{HoldsWellOn, IsKeptDevice, MayShowOn, IsSoundOn, IsRefusedOn, IsOpenedOn, StandsAlways, plate_at}
@@ -58,12 +61,22 @@ content_once size m g h a b =
     ap₂ (λ (p : Plate) (u : VolumeTable). content_of (record { plate = p; pointer = h.pointer; table = u }) m) (sym plates) (sym tables)
 
 -- where it is kept, so is the content of any label and table that stand there
-kept_standing : (size : ℕ) (m : ℕ → List ℕ) (site : Site) (at : Pointer) (t : VolumeTable) → StandsOn size m (standing site at t) → IsKeptOn size m → IsKept (content_of (standing site at t) m)
-kept_standing size m site at t stands k = subst IsKept (content_once size m (standing site at t) k.group stands k.stands) k.kept
+kept_standing : (size : ℕ) (m : ℕ → List ℕ) (site : Site) (at : Pointer) (t : VolumeTable) → StandsOn size m (standing site at t) → IsKeptOn size m → IsKeptWithLogs (content_of (standing site at t) m)
+kept_standing size m site at t stands k = subst IsKeptWithLogs (content_once size m (standing site at t) k.group stands k.stands) k.kept
 
 pub shown_standing : (size : ℕ) (m : ℕ → List ℕ) (site : Site) (at : Pointer) (t : VolumeTable) (ds : List Disk) → StandsOn size m (standing site at t) → Shows size m ds
     → ds ≡ disks (content_of (standing site at t) m)
 shown_standing size m site at t ds stands s = s.shown ∙ ap disks (content_once size m (standing site at t) s.group stands s.stands)
+
+-- ---- all checks, that of logs as the last
+
+-- no check fails on what is kept
+kept_place : (c : Content) → IsKeptWithLogs c → first_place c ≡ None
+kept_place c k = ap₂ (λ (a b : Option Place). first_some (a ∷ b ∷ [])) k.kept.sound k.passes
+
+-- where none fails, none of those before the last does
+pub place_first : (c : Content) → first_place c ≡ None → first_fault c ≡ None
+place_first c none = none_first (first_fault c ∷ log_fault c ∷ []) none (first_fault c) (inl refl)
 
 -- ---- what a stop of the device leaves, by what its group leaves
 
@@ -95,21 +108,21 @@ well_entry size h now site at t k stands holding = subst HoldsWell (sym (content
 pub kept_well : (size : ℕ) (h : Held) → IsKeptDevice size h → HoldsWellOn size (reads h)
 kept_well size h kept g on =
     let k = kept (reads h) (Allows-reads size h) in
-    let whole = subst IsKept (content_once size (reads h) g k.group on k.stands) k.kept in
-    record { holding = whole.holding; linking = whole.linking }
+    let whole = subst IsKeptWithLogs (content_once size (reads h) g k.group on k.stands) k.kept in
+    record { holding = whole.kept.holding; linking = whole.kept.linking }
 
 -- it is sound, as a read gives one of the images that the device allows
 pub kept_sound : (size : ℕ) (h : Held) → IsKeptDevice size h → IsSoundOn size (reads h)
 kept_sound size h kept =
     let k = kept (reads h) (Allows-reads size h) in
-    record { group = k.group; stands = k.stands; sound = k.kept.sound }
+    record { group = k.group; stands = k.stands; sound = kept_place (content_of k.group (reads h)) k.kept }
 
 pub sound_entry : (size : ℕ) (h now : Held) (site : Site) (at : Pointer) (t : VolumeTable) → Keeps (area_of site.layout h) (area_of site.layout now) → StandsOn size (reads h) (standing site at t)
-    → first_fault (content_now site t (area_of site.layout now)) ≡ None → IsSoundOn size (reads h)
+    → first_place (content_now site t (area_of site.layout now)) ≡ None → IsSoundOn size (reads h)
 sound_entry size h now site at t k stands sound = record {
   group = standing site at t;
   stands = stands;
-  sound = sym (ap first_fault (content_entry site t h now k)) ∙ sound;
+  sound = sym (ap first_place (content_entry site t h now k)) ∙ sound;
 }
 
 pub shown_entry : (size : ℕ) (h now : Held) (site : Site) (at : Pointer) (t : VolumeTable) (ds : List Disk) → Keeps (area_of site.layout h) (area_of site.layout now) → StandsOn size (reads h) (standing site at t)
@@ -117,8 +130,8 @@ pub shown_entry : (size : ℕ) (h now : Held) (site : Site) (at : Pointer) (t : 
 shown_entry size h now site at t ds k stands shown = record { group = standing site at t; stands = stands; shown = shown ∙ ap disks (content_entry site t h now k) }
 
 pub opened_entry : (size : ℕ) (h now : Held) (site : Site) (at : Pointer) (t : VolumeTable) (made : Shape) → Keeps (area_of site.layout h) (area_of site.layout now) → StandsOn size (reads h) (standing site at t)
-    → made ≡ opened (content_now site t (area_of site.layout now)) → IsOpenedOn size (reads h) made
-opened_entry size h now site at t made k stands is = record { group = standing site at t; stands = stands; shape_is = is ∙ ap opened (content_entry site t h now k) }
+    → made ≡ opening (content_now site t (area_of site.layout now)) → IsOpenedOn size (reads h) made
+opened_entry size h now site at t made k stands is = record { group = standing site at t; stands = stands; shape_is = is ∙ ap opening (content_entry site t h now k) }
 
 -- ---- refusals
 
@@ -133,7 +146,7 @@ pub refused_content : (told : Type 0) (size : ℕ) (h now : Held) (site : Site) 
     → (told → Keeps (area_of site.layout h) (area_of site.layout now)) → (told → StandsOn size (reads h) (standing site at t))
     → IsOpeningStopped told (content_now site t (area_of site.layout now)) before after e → IsAnswer (λ f. told → IsRefusedOn size (reads h) f) first after e
 refused_content told size h now site at t first before after (fault.Damaged p) before_is calm k stands is =
-    (λ it. by_content (standing site at t) p (stands it) (sym (ap first_fault (content_entry site t h now (k it))) ∙ is it), calm (λ failed. absurd cc) ∙ before_is)
+    (λ it. by_content (standing site at t) p (stands it) (sym (ap first_place (content_entry site t h now (k it))) ∙ is it), calm (λ failed. absurd cc) ∙ before_is)
 refused_content told size h now site at t first before after fault.Device before_is calm k stands is = omega (arith, before_is, is)
 refused_content told size h now site at t first before after fault.NoMemory before_is calm k stands is = calm (λ failed. absurd cc) ∙ before_is
 refused_content told size h now site at t first before after fault.NotARepository before_is calm k stands is = absurd is
@@ -151,9 +164,9 @@ same_extents : (size : ℕ) (h : Held) (site : Site) (t : VolumeTable) (image : 
 same_extents size h site t image was = ap (content_in site t) (fun_ext (λ q. was.sectors q))
 
 failed_kept : (size : ℕ) (entry h : Held) (site : Site) (old : Content) (t : VolumeTable) (image : ℕ → List ℕ) → Keeps entry h → IsKeptDevice size entry
-    → LeavesGroup size h (plate_at site) t image ⊎ IsRepairedFrom old (content_in site t image) → IsKept (content_in site t image)
+    → LeavesGroup size h (plate_at site) t image ⊎ IsRepairedFrom old (content_in site t image) → IsKeptWithLogs (content_in site t image)
 failed_kept size entry h site old t image k kept (inl was) =
-    subst IsKept (sym (same_extents size h site t image was)) (kept_standing size was.whole site was.pointer t was.stands (kept was.whole (Allows-keeps size was.whole k was.allowed)))
+    subst IsKeptWithLogs (sym (same_extents size h site t image was)) (kept_standing size was.whole site was.pointer t was.stands (kept was.whole (Allows-keeps size was.whole k was.allowed)))
 failed_kept size entry h site old t image k kept (inr new) = new.sound
 
 -- an image on which the group is as what it leaves says was left before, or shows the disks of the entry
@@ -181,7 +194,7 @@ LeavesRepaired size h last site now first = (t : VolumeTable) (image : ℕ → L
 pub kept_back : (size : ℕ) (entry h last : Held) (site now : Site) (first : VolumeTable) → now ≡ site → Keeps entry h → StandsAlways size last now
     → LeavesRepaired size h last site now first → IsKeptDevice size entry → IsKeptDevice size last
 kept_back size entry h last site now first same k always left kept =
-    kept_device size last now always (λ t image l. subst (λ (x : Site). IsKept (content_in x t image)) (sym same)
+    kept_device size last now always (λ t image l. subst (λ (x : Site). IsKeptWithLogs (content_in x t image)) (sym same)
     (failed_kept size entry h site (content_now site first (area_of site.layout h)) t image k kept (left t image l)))
 
 pub shown_back : (size : ℕ) (entry h last : Held) (site now : Site) (at : Pointer) (first : VolumeTable) → now ≡ site → Keeps entry h → Keeps (area_of site.layout entry) (area_of site.layout h)

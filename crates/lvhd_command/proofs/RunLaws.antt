@@ -1,6 +1,8 @@
 -- What a run of the program left on the device, from what its session left.
-use Rattle.std.proofs.Common.{◌≡◌, ◌≢◌, ◌⊎◌, inl, inr, ⊎_elim, ℕ, ◌+◌, ◌≤◌, Bool, List, [], Option, Result, Ok, Err, is_err, cond, refl, sym, ap, ap₂, subst, ◌∙◌, arith}
+use Rattle.std.proofs.Common.{◌≡◌, ◌≢◌, ◌⊎◌, inl, inr, ⊎_elim, ℕ, ◌+◌, ◌≤◌, Bool, List, [], Option, Result, Ok, Err, is_err, cond, refl, sym, ap, ap₂, subst, ◌∙◌, arith, true}
+use Rattle.std.proofs.Math.Logic.{∥∥₁_elim}
 use Rattle.std.proofs.Math.Path.{fun_ext}
+use Rattle.std.proofs.Props.{props}
 use Rattle.std.specs.Prelude.{⊤}
 use Rattle.sm_base.specs.declared.faults.Failed.{Failed}
 use Rattle.sm_base.specs.declared.faults.OpenFault.{OpenFault}
@@ -12,14 +14,20 @@ use Rattle.sm_disk.specs.Streams.{Adds}
 use Rattle.sm_disk.proofs.StreamLaws.{Adds-none}
 use Rattle.vg_store.specs.Openings.{IsAnswer}
 use Rattle.sm_script.specs.Pieces.{Writes}
+use Rattle.common_laws.proofs.Lists.{In-map}
 use Rattle.sm_machine.specs.Disks.{Disk}
+use Rattle.sm_machine.specs.Shapes.{ImageRow, is_image_of}
 use Rattle.sm_machine.specs.Steps.{State}
+use Rattle.sm_machine.specs.Tracking.{AreGoodLogs}
+use Rattle.sm_machine.specs.WellFormed.{HasImage, HasRecord, IsWellFormed}
+use Rattle.sm_machine.proofs.Attaches.{is_its_image}
+use Rattle.sm_machine.proofs.Changes.{list_any-some}
 use Rattle.vg_layout.specs.Opening.{plate_of}
 use Rattle.vg_layout.specs.Places.{area_place}
 use Rattle.vg_meta.specs.Tables.{VolumeTable}
 use Rattle.vg_store.specs.Groups.{LeavesGroup, area_of}
 use Rattle.vg_volumes.specs.Sites.{Site, area_size}
-use Rattle.sm_ready.specs.Known.{Known, entry_of, shape_in}
+use Rattle.sm_ready.specs.Known.{Known, entry_of, is_shown, machine_row, shape_in}
 use Rattle.sm_ready.specs.Orderly.{IsOrderly}
 use Rattle.sm_ready.specs.Ready.{HasNoStrayLog, IsReady, IsTidy}
 use Rattle.sm_ready.specs.Sessions.{KeepsAll, state_in}
@@ -67,10 +75,22 @@ pub record IsStateWith (site : Site) (t : VolumeTable) (area : Held) (σ : State
   pub state : IsStateOf (content_now site t area) σ
   pub entries : names_in t is_entry ≡ entry_of σ.shape.op
 
--- so it is of a session between two steps
-pub session_state : (site : Site) (t : VolumeTable) (area : Held) (m : Known) → IsOrderly site t m → IsTidy t m → HasNoStrayLog m → IsReady site t area m → IsStateWith site t area (state_in site t area m)
+-- where logs are good each is that of a visible image
+no_stray_log : (site : Site) (t : VolumeTable) (m : Known) → IsOrderly site t m → ∥ AreGoodLogs (shape_in site t m) ∥₁ → HasNoStrayLog m
 unfolding shape_in
-session_state site t area m o tidy no_stray ready = record { state = law_state site t area m o tidy no_stray ready; entries = o.entries }
+no_stray_log site t m o good l i = ∥∥₁_elim o.well_formed (hlevel props) (λ w. ∥∥₁_elim good (hlevel props) (λ (g : AreGoodLogs (shape_in site t m)). shown w (g.good l i).disk))
+  where
+    shown : IsWellFormed (shape_in site t m) → HasRecord (shape_in site t m) l.disk → is_shown m.rows l.disk ≡ true
+    shown w r =
+        let k : HasImage (shape_in site t m) l.disk = subst (HasImage (shape_in site t m)) r.2 (w.disks r.0 r.1) in
+        let x = In-map machine_row m.rows k.0 k.1 in
+        list_any-some (λ y. is_image_of l.disk (machine_row y)) m.rows x.0 x.1 (subst (λ (y : ImageRow). is_image_of l.disk y ≡ true) x.2 (is_its_image k.0 l.disk k.2 k.3))
+
+-- so it is of a session between two steps, whose logs are good
+pub session_state : (site : Site) (t : VolumeTable) (area : Held) (m : Known) → IsOrderly site t m → IsTidy t m → ∥ AreGoodLogs (shape_in site t m) ∥₁ → IsReady site t area m
+    → IsStateWith site t area (state_in site t area m)
+unfolding shape_in
+session_state site t area m o tidy good ready = record { state = law_state site t area m o tidy (no_stray_log site t m o good) ready; entries = o.entries }
 
 -- what stands on a device that was given back, as a read gives it: the session's content, with its table
 pub record StandsBack (size : ℕ) (site : Site) (held after : Held) (t : VolumeTable) : Type 0 where

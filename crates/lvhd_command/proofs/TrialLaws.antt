@@ -43,6 +43,7 @@ use Rattle.lvhd_command.specs.Texts.{line_of, too_small_words}
 use Rattle.lvhd_command.specs.Trials.{HasTriedFrom, IsLeftByTrial, IsTooSmall, SaysTrial, SessionTried, TrialDid, summary, summary_words, trial_asked, trial_least, trial_start}
 use Rattle.lvhd_command.proofs.ExactLaws.{sound_or_refused}
 use Rattle.lvhd_command.proofs.FormattedLaws.{formatted_kept, formatted_start}
+use Rattle.lvhd_command.proofs.OpenLaws.{kept_sound}
 
 -- ---- a line that was to be printed
 
@@ -152,9 +153,7 @@ pub left_tried : (size : ℕ) (old new : Held) (g : Geometry) (repository : List
 left_tried size old new g repository left = λ image allowed. left_one size old image g repository (left image allowed)
 
 pub sound_kept : (size : ℕ) (h : Held) → IsKeptDevice size h → IsSoundOn size (reads h)
-sound_kept size h kept =
-    let k = kept (reads h) (Allows-reads size h) in
-    record { group = k.group; stands = k.stands; sound = k.kept.sound }
+sound_kept = kept_sound
 
 -- a sound device is not refused: it failed, or memory was wanting
 pub not_opened : (s : Sides) (number : ℕ) (image : ℕ → List ℕ) (told : Type 0) (e : OpenFault) (first last before now : ℕ) (status : Status) → told → IsSoundOn s.size image

@@ -4,7 +4,7 @@ use Rattle.std.specs.Prelude.{Ok, None}
 use Rattle.sm_base.specs.declared.faults.OpenFault.{OpenFault}
 use Rattle.sm_disk.specs.Held.{Held, Keeps, reads}
 use Rattle.sm_disk.proofs.HeldLaws.{Keeps-then}
-use Rattle.sm_standing.specs.Checks.{first_fault}
+use Rattle.sm_standing.specs.LogChecks.{first_place}
 use Rattle.sm_ready.specs.Stores.{content_now}
 use Rattle.vg_layout.specs.Opening.{StandsOn, plate_of}
 use Rattle.vg_layout.specs.Sectors.{Plate, Pointer}
@@ -40,5 +40,5 @@ beside_last size old mid new first k = λ p is. Keeps-then (first p is) (beside_
 
 -- where a check fails nothing is sound that the opening began with
 pub never_sound : (size : ℕ) (entry h : Held) (site : Site) (at : Pointer) (first : VolumeTable) (f : OpenFault) → Keeps (area_of site.layout entry) (area_of site.layout h)
-    → StandsOn size (reads entry) (standing site at first) → IsRefusedOn size (reads entry) f → first_fault (content_now site first (area_of site.layout h)) ≡ None → ⊥
+    → StandsOn size (reads entry) (standing site at first) → IsRefusedOn size (reads entry) f → first_place (content_now site first (area_of site.layout h)) ≡ None → ⊥
 never_sound size entry h site at first f ka stands refused sound = sound_or_refused size (reads entry) f (sound_entry size entry h site at first ka stands sound) refused

@@ -10,11 +10,11 @@ use Rattle.vg_layout.specs.Sectors.{Plate}
 use Rattle.vg_meta.specs.Tables.{VolumeTable}
 use Rattle.vg_store.specs.Groups.{GroupStands, LeavesGroup, beside_of}
 use Rattle.vg_volumes.specs.Sites.{Site, area_size}
-use Rattle.sm_standing.specs.Checks.{first_fault}
 use Rattle.sm_machine.specs.Shapes.{Shape}
 use Rattle.sm_standing.specs.Devices.{IsKeptOn, Shows, content_of}
+use Rattle.sm_standing.specs.Dropped.{opening}
 use Rattle.sm_standing.specs.Keeping.{HoldsWell}
-use Rattle.sm_standing.specs.Opened.{opened}
+use Rattle.sm_standing.specs.LogChecks.{first_place}
 
 -- each image that the device allows is kept
 abbrev pub IsKeptDevice : ℕ → Held → Type 0
@@ -34,18 +34,18 @@ pub record MayShowOn (size : ℕ) (h : Held) (ds : List Disk) : Type 0 where
 pub record IsSoundOn (size : ℕ) (image : ℕ → List ℕ) : Type 0 where
   pub group : GroupFound
   pub stands : StandsOn size image group
-  pub sound : first_fault (content_of group image) ≡ None
+  pub sound : first_place (content_of group image) ≡ None
 
 -- this shape is what an opening makes of what stands on the image
 pub record IsOpenedOn (size : ℕ) (image : ℕ → List ℕ) (made : Shape) : Type 0 where
   pub group : GroupFound
   pub stands : StandsOn size image group
-  pub shape_is : made ≡ opened (content_of group image)
+  pub shape_is : made ≡ opening (content_of group image)
 
 -- the first check that fails, and its answer
 pub data IsRefusedOn (size : ℕ) (image : ℕ → List ℕ) : OpenFault → Type 0 where
   by_group : (e : OpenFault) → IsRefused size image e → IsRefusedOn size image e
-  by_content : (g : GroupFound) (p : Place) → StandsOn size image g → first_fault (content_of g image) ≡ Some p → IsRefusedOn size image (Damaged p)
+  by_content : (g : GroupFound) (p : Place) → StandsOn size image g → first_place (content_of g image) ≡ Some p → IsRefusedOn size image (Damaged p)
 
 -- what the label of the group of this site says
 abbrev pub plate_at : Site → Plate

@@ -10,7 +10,7 @@ ghost use Rattle.sm_run.specs.Runs.{BeginsSettled};
 ghost use Rattle.lvhd_command.specs.declared.statuses.Status.TheVariants.{Device, Done, Sink as SinkFailed, Source as SourceFailed, Words};
 ghost use Rattle.lvhd_command.specs.Devices.{IsKeptDevice, StandsAlways, beside_at};
 ghost use Rattle.lvhd_command.specs.Importing.{CountedAs, HasAnswered, ImportDid, ImportLeft, ImportTold, IsRefusedAtOnce};
-ghost use Rattle.lvhd_command.specs.Sessions.{IsReadySession, session_leaves, site_of, state_of};
+ghost use Rattle.lvhd_command.specs.Sessions.{IsReadySession, KeepsSession, session_leaves, site_of, state_of};
 ghost use Rattle.lvhd_command.specs.Running.{sides};
 
 use crate::formatting::said;
@@ -76,7 +76,7 @@ fn make_disk<D: Disk, S: Source, K: Sink>(
     ensures unread { (r : Refusal) → entry_refusal (state_of session).shape uuid.now ≡ Some r → source.new ≡ source.old }
     ensures beside { D.told → Keeps (beside_at (site_of session) (D.held session.store.inner.disk)) (beside_at (site_of session) (D.held result.1)) }
     ensures stands { D.told → StandsAlways (D.size result.1) (D.held result.1) (site_of session) }
-    ensures kept { D.told → IsReadySession session → IsKeptDevice (D.size result.1) (D.held result.1) }
+    ensures kept { D.told → IsReadySession session → KeepsSession session → IsKeptDevice (D.size result.1) (D.held result.1) }
     ensures told { ImportTold (state_of session).shape uuid.now (S.content source.old) (K.content sink.old) (K.content sink.new) result.0 }
     ensures left { D.told → IsReadySession session → BeginsSettled (state_of session) (MayShow (site_of session) (session_leaves session))
         → ImportLeft (state_of session) uuid.now (D.size session.store.inner.disk) (D.held result.1) (S.content source.old) (S.content source.new) result.0 }

@@ -1,5 +1,4 @@
 use Rattle.std.proofs.Common.{inl, refl, ◌∙◌, subst, arith}
-use Rattle.common_laws.specs.Lists.{In}
 use Rattle.sm_disk.specs.Held.{HasSectors, Keeps}
 use Rattle.sm_ready.specs.Known.{known}
 use Rattle.sm_standing.specs.Contents.{Content}
@@ -52,7 +51,7 @@ returns-in-Ok-clause-did g c = λ told.
           let slots = kept_well s.size s.old k in
           opened_said s.size s.old s.new s.had_got s.got c.send_disk.result.0 c.send_disk.ensures.said
           (stands_opened s.size n site held s.new t m.store.inner.failed g.D.Disk.told e.size keeps always s.old (state_of m) (e.shown told slots) (e.opened told slots) (e.begins told slots) one
-          (session_state site t (area_of site.layout held) (known m.memory) between.orderly between.tidy (λ l i. absurd (subst (In l) m.untracked i)) ((e.ready told slots).0)) (e.label told));
+          (session_state site t (area_of site.layout held) (known m.memory) between.orderly between.tidy ((e.ready told slots).1) ((e.ready told slots).0)) (e.label told));
     }
 
 pub returns-in-Ok-clause-calm : goal.returns-in-Ok-clause-calm

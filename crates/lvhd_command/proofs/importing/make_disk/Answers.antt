@@ -57,15 +57,17 @@ returns-clause-stands g c = λ told.
     subst (λ (x : Site). StandsAlways (g.D.Disk.size c.into_disk-disk.result) (g.D.Disk.held c.into_disk-disk.result) x) site_is (c.into_disk-disk.ensures.stands told)
 
 pub returns-clause-kept : goal.returns-clause-kept
-returns-clause-kept g c = λ told ready.
+returns-clause-kept g c = λ told ready keeps.
     let n = c.import-answer.result.1.inner.disk in
     let site_is = rw c.into_parts-store.ensures.store at c.import-answer.ensures.site in
     let stands = rw c.into_disk-disk.ensures.disk at c.into_disk-disk.ensures.stands in
     let by_store = rw c.into_parts-store.ensures.store at c.import-answer.ensures.done in
     let by_memory = rw c.into_parts-store.ensures.memory at by_store in
     let i = by_memory told ready.0 in
+    let k_store = rw c.into_parts-store.ensures.store at c.import-answer.ensures.kept in
+    let k_memory = rw c.into_parts-store.ensures.memory at k_store in
     subst (λ d. IsKeptDevice (g.D.Disk.size d) (g.D.Disk.held d)) (sym c.into_disk-disk.ensures.disk)
-    (kept_import (g.D.Disk.size n) (g.D.Disk.size n) _ (site_of c.args.session) (g.D.Disk.held n) (g.D.Disk.held n) _ _ _ i.ends refl site_is (Keeps-none (g.D.Disk.held n)) (stands told) (λ t image l. inl l) i.done.crash)
+    (kept_import (g.D.Disk.size n) (g.D.Disk.size n) _ (site_of c.args.session) (g.D.Disk.held n) (g.D.Disk.held n) _ _ _ i.ends refl site_is (Keeps-none (g.D.Disk.held n)) (stands told) (λ t image l. inl l) i.done.crash (k_memory told ready.0 ready.1 keeps))
 
 pub returns-clause-told : goal.returns-clause-told
 returns-clause-told g c =
@@ -146,7 +148,7 @@ returns-in-Ok-clause-stands g c = λ told.
     stands_after (g.D.Disk.size c.settle.result.1) (g.D.Disk.size n) _ (site_of c.args.session) (g.D.Disk.held n) (g.D.Disk.held c.settle.result.1) (sym is_size) site_is (keeps told) (stands told)
 
 pub returns-in-Ok-clause-kept : goal.returns-in-Ok-clause-kept
-returns-in-Ok-clause-kept g c = λ told ready.
+returns-in-Ok-clause-kept g c = λ told ready all.
     let n = c.import-answer.result.1.inner.disk in
     let site_is = rw c.into_parts-store.ensures.store at c.import-answer.ensures.site in
     let stands = rw c.into_disk-disk.ensures.disk at c.into_disk-disk.ensures.stands in
@@ -155,7 +157,9 @@ returns-in-Ok-clause-kept g c = λ told ready.
     let by_store = rw c.into_parts-store.ensures.store at c.import-answer.ensures.done in
     let by_memory = rw c.into_parts-store.ensures.memory at by_store in
     let i = by_memory told ready.0 in
-    kept_import (g.D.Disk.size c.settle.result.1) (g.D.Disk.size n) _ (site_of c.args.session) (g.D.Disk.held n) (g.D.Disk.held c.settle.result.1) _ _ _ i.ends (sym is_size) site_is (keeps told) (stands told) (λ t image l. inl l) i.done.crash
+    let k_store = rw c.into_parts-store.ensures.store at c.import-answer.ensures.kept in
+    let k_memory = rw c.into_parts-store.ensures.memory at k_store in
+    kept_import (g.D.Disk.size c.settle.result.1) (g.D.Disk.size n) _ (site_of c.args.session) (g.D.Disk.held n) (g.D.Disk.held c.settle.result.1) _ _ _ i.ends (sym is_size) site_is (keeps told) (stands told) (λ t image l. inl l) i.done.crash (k_memory told ready.0 ready.1 all)
 
 pub returns-in-Ok-clause-told : goal.returns-in-Ok-clause-told
 returns-in-Ok-clause-told g c =

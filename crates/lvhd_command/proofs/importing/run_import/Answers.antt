@@ -58,7 +58,7 @@ returns-in-Ok-clause-did g c = λ told.
     record {
       beside = beside_then s.size s.old (g.D.Disk.held m.store.inner.disk) s.new site (e.label told) (e.beside told) (c.make_disk.ensures.beside told);
       unsound = λ f on. absurd (sound_or_refused _ _ f (e.sound told) on);
-      kept = λ k. subst (λ n. IsKeptDevice n s.new) is_size (c.make_disk.ensures.kept told (e.ready told (kept_well s.size s.old k)));
+      kept = λ k. subst (λ n. IsKeptDevice n s.new) is_size (c.make_disk.ensures.kept told (e.ready told (kept_well s.size s.old k)) (e.kept told (kept_well s.size s.old k)));
       tried = λ k.
           let slots = kept_well s.size s.old k in
           inl (record {

@@ -7,7 +7,7 @@ use Rattle.vg_layout.specs.Opening.{IsRefused}
 use Rattle.vg_meta.specs.Roomy.{table_alone}
 use Rattle.vg_store.specs.Groups.{LeavesGroup, area_of}
 use Rattle.vg_volumes.specs.Sites.{Site}
-use Rattle.sm_checks.specs.Openable.{IsOpeningStopped}
+use Rattle.sm_recover.specs.Stores.{IsOpeningStopped}
 use Rattle.sm_ready.specs.Stores.{content_now}
 use Rattle.lvhd_command.specs.Devices.{IsRefusedOn, StandsAlways, beside_at, plate_at}
 use Rattle.lvhd_command.specs.Devices.IsRefusedOn.{by_group}

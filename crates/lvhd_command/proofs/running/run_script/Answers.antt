@@ -1,5 +1,4 @@
 use Rattle.std.proofs.Common.{◌≡◌, inl, inr, ⊎_elim, Ok, sym, refl, ap, ◌∙◌, subst}
-use Rattle.common_laws.specs.Lists.{In}
 use Rattle.sm_disk.specs.Held.{Keeps}
 use Rattle.sm_disk.proofs.HeldLaws.{Keeps-none}
 use Rattle.vg_store.specs.Groups.{area_of}
@@ -57,7 +56,7 @@ returns-in-Ok-run-clause-did g c = λ told kept.
     let ready = r.ready (λ failed. ok_not_err c.run.result _ _ c.in-Ok-run.is failed) in
     inl (has_run_sized s c.close.result.0 n site (table_of m) (g.D.Disk.held m.store.inner.disk) _ _ c.run.result _ g.D.Disk.told m.store.inner.failed is_size (e.sound told) (e.shown told slots) (e.opened told slots) r
     (c.close.ensures.back told) (λ q. c.close.ensures.one told q.0)
-    (λ q. session_state site (table_of m) (area_of site.layout (g.D.Disk.held m.store.inner.disk)) (known m.memory) ((m.between q.0).orderly) ((m.between q.0).tidy) (λ l i. absurd (subst (In l) m.untracked i)) q.1)
+    (λ q. session_state site (table_of m) (area_of site.layout (g.D.Disk.held m.store.inner.disk)) (known m.memory) ((m.between q.0).orderly) ((m.between q.0).tidy) q.2 q.1)
     (ends_done s.size n s.new _ c.run.result _ c.close.result.0 g.D.Disk.told told c.in-Ok-run.is is_size c.close.ensures.status (c.close.ensures.shown told ready.0 (ready.1, ready.2))) labelled)
 
 pub returns-clause-did : goal.returns-clause-did
@@ -82,7 +81,7 @@ returns-clause-did g c = λ told kept.
     let back = subst (λ d. IsGivenBack n site (g.D.Disk.held m.store.inner.disk) (g.D.Disk.held d)) (sym c.leave.ensures.disk) (back_itself n site (g.D.Disk.held m.store.inner.disk) (c.leave.ensures.stands told)) in
     inl (has_run_sized s c.status_of_fault.result n site (table_of m) (g.D.Disk.held m.store.inner.disk) _ _ c.run.result _ g.D.Disk.told m.store.inner.failed is_size (e.sound told) (e.shown told slots) (e.opened told slots) r
     back (λ q. subst (λ d. IsOneTable n site (g.D.Disk.held d) (table_of m)) (sym c.leave.ensures.disk) (c.leave.ensures.one told q.0))
-    (λ q. session_state site (table_of m) (area_of site.layout (g.D.Disk.held m.store.inner.disk)) (known m.memory) ((m.between q.0).orderly) ((m.between q.0).tidy) (λ l i. absurd (subst (In l) m.untracked i)) q.1)
+    (λ q. session_state site (table_of m) (area_of site.layout (g.D.Disk.held m.store.inner.disk)) (known m.memory) ((m.between q.0).orderly) ((m.between q.0).tidy) q.2 q.1)
     (ends_early s.size s.new _ c.run.result c.in-Err-run.fault c.status_of_fault.result c.in-Err-run.is c.status_of_fault.ensures) labelled)
 
 pub returns-in-Err-clause-unsound : goal.returns-in-Err-clause-unsound

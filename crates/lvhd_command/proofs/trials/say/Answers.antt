@@ -1,5 +1,4 @@
 use Rattle.std.proofs.Common.{◌≡◌, ◌⊎◌, inl, inr, sym, ◌∙◌, subst}
-use Rattle.common_laws.specs.Lists.{In}
 use Rattle.vg_store.specs.Groups.{area_of}
 use Rattle.vg_volumes.specs.Sites.{Site}
 use Rattle.sm_ready.specs.Known.{known}
@@ -52,7 +51,7 @@ returns-in-Done-clause-rests g c = λ told ready keeps other.
       settled = settled;
       only = e.shown told whole ready settled;
       reads = reads_as size site (g.D.Disk.held s.store.inner.disk) (g.D.Disk.held c.close-status.result.1) (table_of s) _ back (e.one told whole)
-          (session_state site (table_of s) (area_of site.layout (g.D.Disk.held s.store.inner.disk)) (known s.memory) ((s.between whole).orderly) ((s.between whole).tidy) (λ l i. absurd (subst (In l) s.untracked i)) ready.0);
+          (session_state site (table_of s) (area_of site.layout (g.D.Disk.held s.store.inner.disk)) (known s.memory) ((s.between whole).orderly) ((s.between whole).tidy) ready.1 ready.0);
       kept = returns-in-Done-clause-kept g c told keeps;
     }
 
