@@ -9,7 +9,7 @@ use Rattle.sm_ready.proofs.LogRows.{entry_apart}
 use Rattle.sm_ready.specs.Known.{row_face}
 use Rattle.vg_meta.proofs.NameLaws.{name_eq-other}
 use Rattle.sm_machine.specs.Operations.{Op}
-use Rattle.vg_meta.specs.Tables.{VolumeTable}
+use Rattle.vg_meta.specs.Tables.{IsTable, VolumeTable}
 use Rattle.examples_moments.proofs.WorkedDisks.{filled_held, top_held}
 use Rattle.sm_base.specs.declared.names.Name.TheVariants.{Cbt, Mgt, Vhd, Coalesce, Relink}
 use Rattle.sm_disk.specs.Held.{Held}
@@ -39,6 +39,8 @@ use Rattle.examples_moments.proofs.PlacedLaws.{area_first, area_second, area_thi
 use Rattle.examples_ready.specs.WorkedRows.{sizes, site, top_head, head_over, first_slot, no_slots}
 use Rattle.examples_ready.specs.Repositories.{chain_table, chain_known, chain_area, chain_image, copy, copy_table, copy_known, link, link_table, link_known}
 use Rattle.examples_ready.proofs.ChainOrderly.{none_new}
+use Rattle.examples_ready.proofs.CopyOrderly.{copy_is_table}
+use Rattle.examples_ready.proofs.LinkOrderly.{link_is_table}
 use Rattle.examples_ready.proofs.RecordSteps.{records_agree, no_stray_in}
 use Rattle.examples_ready.proofs.SteadySteps.{HoldsImage, rest_settled, steady, top_here, top_holds, filled_here, filled_holds, empty_here, empty_holds, volume_holds}
 use Rattle.examples_ready.proofs.TableSteps.{each, second_uuid}
@@ -98,13 +100,13 @@ module _ (entry : Name) (none : making (chain_table entry) ≡ []) (byte : ℕ) 
   no_log is u =
       ap (λ b. cond b (Some (record { name = entry; hidden = false; fresh = false; extents = [] })) None) (name_eq-other entry (Cbt u) (λ same. entry_apart entry is u (sym same)))
 
-  pub ready_where : is_entry entry ≡ true → (operation : Op) → IsBelow (content_now site t held_area) operation → IsReady site t held_area (chain_known operation first_slot 5)
+  pub ready_where : IsTable 64 t → is_entry entry ≡ true → (operation : Op) → IsBelow (content_now site t held_area) operation → IsReady site t held_area (chain_known operation first_slot 5)
   unfolding row_of name_eq
-  ready_where is operation below = record {
+  ready_where table is operation below = record {
     firm = firm_where operation below;
     records = records_agree t held_area recorded 511 refl refl refl (first_right, tt) (λ k low. area_records below_image disk_image between_image recorded k low);
     recorded = quiet_settled (records_held site t held_area) (rest_settled (extents_of (rows t Mgt)) (chain_image byte));
-    logs = logged_none site t held_area (λ u. ap row_face (no_log is u));
+    logs = logged_none site t held_area table (λ u. ap row_face (no_log is u));
     logged = λ u. quiet_settled (volume_of site t held_area (Cbt u)) (rest_settled (extents_of (rows t (Cbt u))) (chain_image byte));
   }
 
@@ -144,10 +146,10 @@ held_below entry cursor none = record {
 -- ---- a copy, and a link after it
 
 pub copy_ready : IsReady site copy_table chain_area copy_known
-copy_ready = ready_where (Coalesce second base) refl 34 refl copy (held_below (Coalesce second base) 1 refl)
+copy_ready = ready_where (Coalesce second base) refl 34 copy_is_table refl copy (held_below (Coalesce second base) 1 refl)
 
 pub link_ready : IsReady site link_table chain_area link_known
-link_ready = ready_where (Relink second base) refl 34 refl link (held_below (Relink second base) 64 refl)
+link_ready = ready_where (Relink second base) refl 34 link_is_table refl link (held_below (Relink second base) 64 refl)
 
 pub chain_tidy : (entry : Name) (operation : Op) → IsTidy (chain_table entry) (chain_known operation first_slot 5)
 unfolding image_uuid

@@ -35,7 +35,7 @@ use Rattle.examples_ready.proofs.TableSteps.{alike, each, below_by, distinct_by,
 abbrev used : List ℕ
 used = numbers 0 16 ++ (numbers 21 5 ++ numbers 16 5)
 
-live_is_table : IsTable 64 leaf_copied
+pub live_is_table : IsTable 64 leaf_copied
 unfolding IsName IsStrictlySortedBy name_cmp spelling uuid_text by_index numbers
 live_is_table = record {
   sequence = lit< tt;

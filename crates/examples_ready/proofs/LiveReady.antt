@@ -29,7 +29,7 @@ use Rattle.examples_moments.proofs.WorkedDisks.{filled_held, top_held}
 use Rattle.examples_moments.proofs.WorkedLaws.{filled_valid, top_size, top_valid}
 use Rattle.examples_ready.specs.WorkedRows.{sizes, site, top_head, head_over, first_slot}
 use Rattle.examples_ready.specs.Repositories.{live, live_known, live_area}
-use Rattle.examples_ready.proofs.LiveOrderly.{none_new}
+use Rattle.examples_ready.proofs.LiveOrderly.{live_is_table, none_new}
 use Rattle.examples_ready.proofs.RecordSteps.{records_agree, no_stray_in}
 use Rattle.examples_ready.proofs.SteadySteps.{HoldsImage, rest_settled, steady, top_here, top_holds, filled_here, filled_holds, volume_holds, none_settled}
 use Rattle.examples_ready.proofs.TableSteps.{each}
@@ -70,7 +70,7 @@ module _ (dirty : List ℕ) where
     firm = firm_where below;
     records = records_agree leaf_copied live_area recorded 511 refl refl refl (first_right, tt) (λ k low. area_records below_image disk_image empty recorded k low);
     recorded = quiet_settled (records_held site leaf_copied live_area) (rest_settled (extents_of (rows leaf_copied Mgt)) (area_of below_image disk_image empty recorded));
-    logs = logged_none site leaf_copied live_area (λ u. refl);
+    logs = logged_none site leaf_copied live_area live_is_table (λ u. refl);
     logged = λ u. quiet_settled (volume_of site leaf_copied live_area (Cbt u)) (none_settled live_area);
   }
 

@@ -1,14 +1,17 @@
 -- Logs in memory or on the device that fail one field of the invariant of the sectors.
-use Rattle.std.proofs.Common.{◌≡◌, ◌≢◌, inl, ℕ, ◌+◌, ◌*◌, ◌<◌, false, cond, List, [], ◌∷◌, get_or, refl, sym, ap, ◌∙◌, arith, bytes_eq}
+use Rattle.std.proofs.Common.{◌≡◌, ◌≢◌, inl, ℕ, ◌+◌, ◌*◌, ◌<◌, false, cond, List, [], ◌∷◌, get_or, refl, sym, ap, ◌∙◌, arith, bytes_eq, ◌++◌, lit<}
 use Rattle.std.proofs.lemmas.Bool.{ne_eqb}
 use Rattle.std.proofs.lemmas.Option.{none-some}
 use Rattle.common_laws.specs.Lists.{In, numbers}
+use Rattle.std.specs.List.Sorted.{IsStrictlySortedBy}
+use Rattle.sm_base.specs.Names.{IsName, name_cmp, spelling, uuid_text}
 use Rattle.sm_base.specs.declared.names.Name.TheVariants.{Raw, Vhd, Cbt}
+use Rattle.uuid.specs.Text.{by_index}
 use Rattle.sm_disk.specs.Held.{newest}
 use Rattle.sm_disk.specs.Sectors.{zeros}
 use Rattle.sm_mgt.specs.Places.{records_held}
 use Rattle.sm_standing.specs.Logs.{IsLogged}
-use Rattle.vg_meta.specs.Tables.{rows, row_of, name_eq, extents_of}
+use Rattle.vg_meta.specs.Tables.{IsTable, rows, row_of, name_eq, extents_of}
 use Rattle.vg_volumes.specs.Sites.{volume_of}
 use Rattle.vg_volumes.specs.Volumes.{span, spot, volume}
 use Rattle.vhd_chain.specs.Trees.{row_name}
@@ -33,7 +36,7 @@ use Rattle.examples_ready.specs.WorkedRows.{sizes, site, first_slot, top_head}
 use Rattle.examples_ready.proofs.PlainReady.{plain_place, plain_ready, raw_right}
 use Rattle.examples_ready.proofs.RecordSteps.{records_agree}
 use Rattle.examples_ready.proofs.SteadySteps.{HoldsImage, apart_settled, rest_settled, steady, top_here, top_holds, volume_holds}
-use Rattle.examples_ready.proofs.TableSteps.{each, new_face}
+use Rattle.examples_ready.proofs.TableSteps.{below_by, distinct_by, each, first_uuid, new_face, second_uuid}
 
 -- ---- a log that no volume spells
 
@@ -51,7 +54,7 @@ unspelled_only h = record {
 }
 
 pub unspelled_fails : ¬ IsLogged (content_now site plain_table plain_area) tracked_known.logs
-unspelled_fails h = none-some first_log (sym (plain_ready.logs first) ∙ h first)
+unspelled_fails h = none-some first_log (sym (plain_ready.logs first).read ∙ (h first).read)
 
 -- ---- a sector of a new log that is not synced
 
@@ -81,6 +84,18 @@ images_quiet = each (λ r. is_written_in (shape_in site log_table plain_known) (
   (λ unwritten. quiet_settled (volume_of site log_table log_area (Vhd first)) (apart_settled log_area 704 log_elsewhere (numbers 16 5) first_apart), tt),
 )
 
+log_is_table : IsTable 64 log_table
+unfolding IsName IsStrictlySortedBy name_cmp spelling uuid_text by_index numbers
+log_is_table = record {
+  sequence = lit< tt;
+  volumes = record {
+    each = (record { name = first_uuid; kind = refl }, (record { name = second_uuid; kind = refl }, (record { name = tt; kind = refl }, (record { name = first_uuid; kind = refl }, tt))));
+    rising = ((refl, (refl, (refl, tt))), ((refl, (refl, tt)), ((refl, tt), (tt, tt))));
+    below = below_by 64 (22 ∷ (21 ∷ numbers 0 21)) refl;
+    distinct = distinct_by (22 ∷ (21 ∷ numbers 0 21)) refl;
+  };
+}
+
 pub unlasting_only : ((u : List ℕ) → IsQuiet (volume_of site log_table log_area (Cbt u))) → IsReady site log_table log_area plain_known
 unfolding row_of name_eq
 unlasting_only h = record {
@@ -93,7 +108,7 @@ unlasting_only h = record {
   records = records_agree log_table log_area (first_record ∷ raw_record ∷ []) 510 refl refl refl (first_right, (raw_right, tt))
       (λ k below. ap (newest (plain_image k)) (log_elsewhere k (λ e. omega (arith, e, below))) ∙ area_records (top_image 17) empty empty (first_record ∷ raw_record ∷ []) k below);
   recorded = quiet_settled (records_held site log_table log_area) (apart_settled log_area 704 log_elsewhere (numbers 0 16) records_apart);
-  logs = logged_none site log_table log_area (λ u. new_face (bytes_eq first u) _ refl);
+  logs = logged_none site log_table log_area log_is_table (λ u. new_face (bytes_eq first u) _ refl);
   logged = h;
 }
 

@@ -18,7 +18,7 @@ use Rattle.examples_moments.proofs.ForkExample.{base_named, first_right, second_
 use Rattle.examples_moments.proofs.PlacedLaws.{area_first, area_second, area_third, area_records}
 use Rattle.examples_ready.specs.WorkedRows.{sizes, site, top_head, head_over, first_slot, no_slots}
 use Rattle.examples_ready.specs.Repositories.{pair_table, pair_known, pair_area}
-use Rattle.examples_ready.proofs.PairOrderly.{none_new}
+use Rattle.examples_ready.proofs.PairOrderly.{none_new, pair_is_table}
 use Rattle.examples_ready.proofs.RecordSteps.{records_agree, no_stray_in}
 use Rattle.examples_ready.proofs.SteadySteps.{HoldsImage, rest_settled, steady, top_here, top_holds, filled_here, filled_holds, empty_here, empty_holds, volume_holds, none_settled}
 use Rattle.examples_ready.proofs.TableSteps.{each}
@@ -66,7 +66,7 @@ pair_ready = record {
   firm = pair_firm;
   records = records_agree pair_table pair_area recorded 510 refl refl refl (first_right, (second_right, tt)) (λ k below. area_records below_image disk_image snapshot_image recorded k below);
   recorded = quiet_settled (records_held site pair_table pair_area) (rest_settled (extents_of (rows pair_table Mgt)) (area_of below_image disk_image snapshot_image recorded));
-  logs = logged_none site pair_table pair_area (λ u. refl);
+  logs = logged_none site pair_table pair_area pair_is_table (λ u. refl);
   logged = λ u. quiet_settled (volume_of site pair_table pair_area (Cbt u)) (none_settled pair_area);
 }
 

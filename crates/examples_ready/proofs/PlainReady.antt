@@ -25,7 +25,7 @@ use Rattle.examples_moments.proofs.ForkExample.{first_right}
 use Rattle.examples_moments.proofs.PlacedLaws.{area_first, area_records}
 use Rattle.examples_ready.specs.WorkedRows.{sizes, site, top_head, first_slot}
 use Rattle.examples_ready.specs.Repositories.{raw_record, plain_table, plain_known, plain_rows, plain_image, plain_area, written_known, written_area}
-use Rattle.examples_ready.proofs.PlainOrderly.{none_new}
+use Rattle.examples_ready.proofs.PlainOrderly.{none_new, plain_orderly}
 use Rattle.examples_ready.proofs.RecordSteps.{records_agree, no_stray_in}
 use Rattle.examples_ready.proofs.SteadySteps.{HoldsImage, apart_settled, rest_settled, steady, top_here, top_holds, volume_holds, none_settled}
 use Rattle.examples_moments.proofs.PlacedLaws.{spot_numbers}
@@ -58,7 +58,7 @@ plain_ready = record {
   records = records_agree plain_table plain_area (first_record ∷ raw_record ∷ []) 510 refl refl refl (first_right, (raw_right, tt))
       (λ k below. area_records (top_image 17) empty empty (first_record ∷ raw_record ∷ []) k below);
   recorded = quiet_settled (records_held site plain_table plain_area) (rest_settled (extents_of (rows plain_table Mgt)) plain_image);
-  logs = logged_none site plain_table plain_area (λ u. refl);
+  logs = logged_none site plain_table plain_area plain_orderly.table (λ u. refl);
   logged = λ u. quiet_settled (volume_of site plain_table plain_area (Cbt u)) (none_settled plain_area);
 }
 
@@ -109,7 +109,7 @@ written_ready = record {
   records = records_agree plain_table written_area (first_record ∷ raw_record ∷ []) 510 refl refl refl (first_right, (raw_right, tt))
       (λ k below. first_settled k below ∙ area_records (top_image 17) empty empty (first_record ∷ raw_record ∷ []) k below);
   recorded = quiet_settled (records_held site plain_table written_area) (apart_settled written_area 517 pending_none (numbers 0 16) records_apart);
-  logs = logged_none site plain_table written_area (λ u. refl);
+  logs = logged_none site plain_table written_area plain_orderly.table (λ u. refl);
   logged = λ u. quiet_settled (volume_of site plain_table written_area (Cbt u)) (none_settled written_area);
 }
 

@@ -38,7 +38,9 @@ use Rattle.examples_ready.specs.FailingSectors.{uncopied_area, unsynced_area}
 use Rattle.examples_ready.specs.Repositories.{copy, copy_table, copy_known, link, link_table, link_known, labelled, plain_table, plain_known, plain_rows, plain_image, plain_area, raw_record, written_area}
 use Rattle.examples_ready.specs.WorkedRows.{sizes, site, no_slots, first_slot, top_head}
 use Rattle.examples_ready.proofs.ChainReady.{not_held_below, ready_where}
-use Rattle.examples_ready.proofs.PlainOrderly.{orderly_with, stand_right}
+use Rattle.examples_ready.proofs.CopyOrderly.{copy_is_table}
+use Rattle.examples_ready.proofs.LinkOrderly.{link_is_table}
+use Rattle.examples_ready.proofs.PlainOrderly.{orderly_with, plain_orderly, stand_right}
 use Rattle.examples_ready.proofs.PlainReady.{plain_holds, plain_place, plain_ready, raw_right, written_ready, written_not_quiet}
 use Rattle.examples_ready.proofs.RecordSteps.{records_agree}
 use Rattle.examples_ready.proofs.SteadySteps.{HoldsImage, apart_settled, entry_alike, held_reads, rest_settled, steady, top_here, top_holds, volume_holds, none_settled}
@@ -100,7 +102,7 @@ loose_fails h = written_not_quiet (h _ (inr (inl refl)) unwritten)
 -- ---- a cursor past a block that the base holds otherwise
 
 pub uncopied_only : IsBelow (content_now site copy_table uncopied_area) copy → IsReady site copy_table uncopied_area copy_known
-uncopied_only h = ready_where (Coalesce second base) refl 17 refl copy h
+uncopied_only h = ready_where (Coalesce second base) refl 17 copy_is_table refl copy h
 
 pub uncopied_fails : ¬ IsBelow (content_now site copy_table uncopied_area) copy
 uncopied_fails h = not_held_below (Coalesce second base) refl 17 (λ e. omega (arith, e)) 1 (lit≤ tt) h
@@ -108,7 +110,7 @@ uncopied_fails h = not_held_below (Coalesce second base) refl 17 (λ e. omega (a
 -- ---- nor does it under a link
 
 pub unheld_only : IsBelow (content_now site link_table uncopied_area) link → IsReady site link_table uncopied_area link_known
-unheld_only h = ready_where (Relink second base) refl 17 refl link h
+unheld_only h = ready_where (Relink second base) refl 17 link_is_table refl link h
 
 pub unheld_fails : ¬ IsBelow (content_now site link_table uncopied_area) link
 unheld_fails h = not_held_below (Relink second base) refl 17 (λ e. omega (arith, e)) 64 (lit≤ tt) h
@@ -186,7 +188,7 @@ unsynced_only h = record {
   records = records_agree plain_table unsynced_area (first_record ∷ raw_record ∷ []) 510 refl refl refl (first_right, (raw_right, tt))
       (λ k below. unsynced_reads k ∙ area_records (top_image 17) empty empty (first_record ∷ raw_record ∷ []) k below);
   recorded = h;
-  logs = logged_none site plain_table unsynced_area (λ u. refl);
+  logs = logged_none site plain_table unsynced_area plain_orderly.table (λ u. refl);
   logged = λ u. quiet_settled (volume_of site plain_table unsynced_area (Cbt u)) (none_settled unsynced_area);
 }
 

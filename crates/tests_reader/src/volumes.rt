@@ -201,7 +201,7 @@ fn suits(volume: &Volume) -> bool
     match volume.name {
         Name::Mgt => no_marks,
         Name::Vhd(_) | Name::Raw(_) | Name::Old(_) => !no_extents,
-        Name::Cbt(_) => false,
+        Name::Cbt(_) => !volume.hidden && !no_extents,
         Name::Clone { .. }
         | Name::Inflate { .. }
         | Name::Coalesce { .. }

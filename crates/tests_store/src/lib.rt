@@ -7,7 +7,8 @@
 //! Each byte of a new group's label, header and text is changed, and of those of a group of version 1, with the sums left and
 //! with the sums made right again, and an opening answers what the reference reader finds. A device of stale bytes is formatted; a commit on it stops at
 //! each of its calls, and what is left has the earlier table or the next. The sectors of a volume stand in its extents.
-//! Tables that are spelled right and make no sense are refused with the place of the first damage.
+//! Tables that are spelled right and make no sense are refused with the place of the first damage. Logs of tracked disks that are of no use go as a
+//! store is opened, and one that is wrong is named.
 //!
 //! The bytes and places that are wanted are worked out by hand from the tables of offsets.
 #![tactic(auto)]
@@ -20,6 +21,8 @@ mod damage_tests;
 mod fixtures;
 #[cfg(test)]
 mod journal_tests;
+#[cfg(test)]
+mod log_tests;
 #[cfg(test)]
 mod place_tests;
 #[cfg(test)]

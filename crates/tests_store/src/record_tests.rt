@@ -19,7 +19,7 @@ const SECOND: u8 = 2;
 
 const THIRD: u8 = 3;
 
-fn uuid(last: u8) -> Uuid {
+pub fn uuid(last: u8) -> Uuid {
     Uuid::from_bytes([0, 0, 0, 0, 0, 0, 0x40, 0, 0x80, 0, 0, 0, 0, 0, 0, last])
 }
 
@@ -46,7 +46,7 @@ fn law_uuid(bytes: &[u8])
 }
 
 /// The record of a disk.
-fn record(last: u8, label: &[u8]) -> Result<Record, Fail>
+pub fn record(last: u8, label: &[u8]) -> Result<Record, Fail>
     ensures proper { IfOk result IsRecord }
 {
     let uuid = uuid(last);
