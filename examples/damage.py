@@ -2,7 +2,9 @@
 """Damages a repository in one place: damage.py FILE PLACE. Sums that an opening tests earlier are made right, so that it goes on to this place.
 `sequence` is no damage: it sets the sequence number to the first that is too high for a new image. `old` is none either: it writes a repository of
 the narrow layout, whose text is short enough, as one of version 1, and puts zeros where that has nothing. Nor are `apart` and `dealt`: they deal all extents
-out, each second one or each one, to VHD images without blocks that have one extent each, so that no two of an image are neighbours."""
+out, each second one or each one, to VHD images without blocks that have one extent each, so that no two of an image are neighbours. Nor is `track`: it makes the
+log of the first disk, of four pieces in which no bit is set; `logs` prints what the logs are read as, and `strays` makes one of a disk that is not there, and one
+that is new."""
 import struct
 import sys
 
@@ -30,6 +32,11 @@ def segments(extents):
         else:
             pairs.append([extent, 1])
     return pairs
+
+
+def log_head(tag, since, pieces):
+    """The first sector of a log: letters, its number, that since which it has bits, and how many pieces it has, with the sum of all that."""
+    return sealed(b"LVHDCBTL" + struct.pack(">QQI", tag, since, pieces) + bytes(484))
 
 
 class Repository:
@@ -106,6 +113,22 @@ class Repository:
             self.put(self.area + self.extent * (volume[1][-1] + 1) - 1, front[:512])
         self.commit()
 
+    def add_log(self, disk, pieces, flags=0, tag=0, since=0):
+        """Makes the log of a disk on the first free extent."""
+        used = {extent for _, extents in self.volumes.values() for extent in extents}
+        extent = next(extent for extent in range(self.count) if extent not in used)
+        self.volumes[b"CBT-" + disk] = [flags, [extent]]
+        self.put(self.area + self.extent * extent, log_head(tag, since, pieces) + bytes(512))
+
+    def logs(self):
+        """Of each log the disk, the two numbers, and a digit for each piece."""
+        for name in sorted(name for name in self.volumes if name[:4] == b"CBT-"):
+            head, bits = self.get(self.sector_of(name)), self.get(self.sector_of(name) + 1)
+            _, tag, since, pieces = struct.unpack(">8sQQI", head[:28])
+            assert head == log_head(tag, since, pieces), "no head"
+            digits = "".join(str(bits[piece // 8] >> 7 - piece % 8 & 1) for piece in range(pieces))
+            print(f"{name[4:].decode()}: number {tag}, since {since}, pieces {digits}")
+
     def volume(self, front):
         """The first volume whose name begins so."""
         return next(volume for name, volume in sorted(self.volumes.items()) if name.startswith(front))
@@ -133,6 +156,10 @@ def damage(it, place):
         it.change(it.sector_of(b"MGT"), 200, b"\1")
     elif place == "disk":
         it.put(it.sector_of(b"MGT"), bytes(512))
+    elif place == "log":
+        it.change(it.sector_of(b"CBT-"), 27, b"\5", sealed)
+    elif place == "logs":
+        it.logs()
     elif place == "image":
         it.put(it.sector_of(b"VHD-1") + 1, bytes(512))
     else:
@@ -152,6 +179,11 @@ def change_table(it, place):
         free = [extent for extent in range(it.count) if extent not in used]
         for number in range(501 - sum(name[:2] in (b"VH", b"LV") for name in it.volumes)):
             it.volumes[b"LV-00000000-0000-4000-8000-%012d" % number] = [0, [free[number]]]
+    elif place == "track":
+        it.add_log(b"11111111-1111-4111-8111-111111111111", 4)
+    elif place == "strays":
+        it.add_log(ABSENT, 1, 0, 900)
+        it.add_log(ABSENT[:-1] + b"6", 1, 2)
     elif place == "journal":
         it.volumes[b"inflate_" + ABSENT + b"_1"] = [0, []]
     elif place == "tree":
