@@ -24,6 +24,8 @@ pub enum Refusal {
     RawDisk,
     /// The disk is tracked.
     Tracked,
+    /// The disk is not tracked, or the logs do not lead from the later disk back to the earlier one.
+    NotTracked,
     /// The sectors are none, too many, or not all within the disk.
     OutOfRange,
     /// The size is 0 or too large.
@@ -49,7 +51,7 @@ pub enum Refusal {
 }
 
 impl Refusal {
-    /// The refusal's number, from 1 to 20: in the order of the tests, but for that of a tracked disk, which is 20.
+    /// The refusal's number, from 1 to 21: in the order of the tests, but for those of tracked disks, which are 20 and 21.
     pub fn number(&self) -> u8
         ensures { result ≡ number_of self.now }
     {
@@ -63,6 +65,7 @@ impl Refusal {
             Refusal::ReadOnly => 7,
             Refusal::RawDisk => 8,
             Refusal::Tracked => 20,
+            Refusal::NotTracked => 21,
             Refusal::OutOfRange => 9,
             Refusal::BadSize => 10,
             Refusal::Shrink => 11,
