@@ -34,7 +34,7 @@ touched_more sector count l = record { disk = refl; tag = refl; since = refl; bi
 same_more : (l m : Log) → m ≡ l → HasMore l m
 same_more l m e = subst (λ (x : Log). HasMore l x) (sym e) (record { disk = refl; tag = refl; since = refl; bits = λ k h. h })
 
-have_more : (u : List ℕ) (sector count : ℕ) (logs : List Log) → HaveMore logs (on_log u (touched sector count) logs)
+pub have_more : (u : List ℕ) (sector count : ℕ) (logs : List Log) → HaveMore logs (on_log u (touched sector count) logs)
 have_more u sector count logs m i =
     let c = changed_log u (touched sector count) logs m i in (
       c.log,

@@ -2,13 +2,13 @@
 use Rattle.std.proofs.Common.{◌≡◌, ◌≢◌, ℕ, zero, suc, ◌/◌, ◌==◌, Bool, true, false, List, [], ◌∷◌, length, replicate, Option, Some, None, refl, sym, ap, ◌∙◌, inl, inr, subst, if◌then◌else◌, ◌||◌, arith}
 use Rattle.std.specs.List.{find}
 use Rattle.std.specs.Str.{bytes_eq}
-use Rattle.std.proofs.lemmas.Bool.{eqb-true, eq-eqb}
+use Rattle.std.proofs.lemmas.Bool.{eqb-true, eq-eqb, true≢false}
 use Rattle.std.proofs.lemmas.List.{length-replicate}
 use Rattle.common_laws.specs.Lists.{In, ◌>>=◌}
 use Rattle.common_laws.proofs.Bytes.{bytes_eq-same, same_or_not}
 use Rattle.common_laws.proofs.Lists.{find-some}
 use Rattle.sm_log.specs.Logs.{Log, bit, piece_sectors, before, walk, walked, united, changed, log_of, is_log_of}
-use Rattle.sm_log.specs.Told.{Showing, Follows, Tells, ShowsOne}
+use Rattle.sm_log.specs.Told.{Showing, Follows, Tells, ShowsAlong}
 use Rattle.sm_log.proofs.BitLaws.{bit-either, length-either}
 
 -- the log before is one of the logs, and this one follows it
@@ -28,6 +28,22 @@ unfolding walk
 no_walk zero u logs = refl
 no_walk (suc most) u logs = refl
 
+one_step : (l : Log) (ls : List Log) (r : Option (List Log)) → (r >>= λ rest. Some (l ∷ rest)) ≡ Some ls → (rest : List Log) × (r ≡ Some rest) × (ls ≡ l ∷ rest)
+one_step l ls None e = let z : None ≡ Some ls = e in cc
+one_step l ls (Some rest) e = let z : Some (l ∷ rest) ≡ Some ls = e in let s : l ∷ rest ≡ ls = cc in (rest, refl, sym s)
+
+-- a log that is not the end of a walk is on it
+head_in : (most : ℕ) (u : List ℕ) (logs : List Log) (m : Log) (rest : List Log) → walk most u logs (Some m) ≡ Some rest → bytes_eq m.disk u ≡ false → In m rest
+unfolding walk
+head_in zero u logs m rest e apart = let z : None ≡ Some rest = e in cc
+head_in (suc most) u logs m rest e apart = by (bytes_eq m.disk u) apart e
+  where
+    by : (b : Bool) → b ≡ false → (if b then Some [] else (walk most u logs (before m logs) >>= λ ls. Some (m ∷ ls))) ≡ Some rest → In m rest
+    by true f q = absurd (true≢false f)
+    by false f q =
+        let p = one_step m rest (walk most u logs (before m logs)) q in
+        subst (λ (a : List Log). In m a) (sym p.2) (inl refl)
+
 or_left : (a b : Bool) → a ≡ true → (a || b) ≡ true
 or_left true b h = refl
 or_left false b h = let e : false ≡ true = h in cc
@@ -44,24 +60,33 @@ in_rest : (blank : List Bool) (n : Log) (ls : List Log) (k : ℕ) → bit (unite
 unfolding united
 in_rest blank n ls k e = bit-either n.bits (united blank ls) k ∙ or_right (bit n.bits k) _ e
 
--- within so many logs, from a log that is one of them
+-- within so many logs, from a log that is one of them, where each disk on the way shows something
 abbrev Covers : Showing → List Log → List ℕ → ℕ → List Bool → ℕ → Type 0
-Covers shows logs u k blank most = (n : Log) (ls : List Log) → In n logs → walk most u logs (Some n) ≡ Some ls
+Covers shows logs u k blank most = (n : Log) (ls : List Log) → In n logs → walk most u logs (Some n) ≡ Some ls → ((l : Log) → In l ls → (z : List ℕ) × shows l.disk k z)
     → (x y : List ℕ) → shows u k x → shows n.disk k y → x ≢ y → bit (united blank ls) (k / piece_sectors) ≡ true
 
-one_more : (shows : Showing) (logs : List Log) (u : List ℕ) (k : ℕ) (blank : List Bool) → Tells shows logs → ShowsOne shows logs k
+-- the earlier disk shows one thing
+abbrev IsOne : Showing → List ℕ → ℕ → Type 0
+IsOne shows u k = (x y : List ℕ) → shows u k x → shows u k y → x ≡ y
+
+one_more : (shows : Showing) (logs : List Log) (u : List ℕ) (k : ℕ) (blank : List Bool) → Tells shows logs → IsOne shows u k
     → (most : ℕ) → Covers shows logs u k blank most → Covers shows logs u k blank (suc most)
 unfolding walk
-one_more shows logs u k blank h one most ih n ls in_n e x y sx sy ne = by_end (bytes_eq n.disk u) refl e
+one_more shows logs u k blank h one most ih n ls in_n e some x y sx sy ne = by_end (bytes_eq n.disk u) refl e
   where
+    -- what the disk of the log before shows: the earlier disk is that, or it is on the way
+    shown : (m : Log) (rest : List Log) → walk most u logs (Some m) ≡ Some rest → ls ≡ n ∷ rest → (b : Bool) → bytes_eq m.disk u ≡ b → (z : List ℕ) × shows m.disk k z
+    shown m rest w is true q = (x, subst (λ (v : List ℕ). shows v k x) (sym (bytes_eq-same m.disk u q)) sx)
+    shown m rest w is false q = some m (subst (λ (a : List Log). In m a) (sym is) (inr (head_in most u logs m rest w q)))
+
     further : (m : Log) (rest : List Log) → In m logs × Follows m n → walk most u logs (Some m) ≡ Some rest → ls ≡ n ∷ rest
         → bit (united blank ls) (k / piece_sectors) ≡ true
     further m rest p w is =
-        let z : (z : List ℕ) × shows m.disk k z = one.some m p.0 in
+        let z : (z : List ℕ) × shows m.disk k z = shown m rest w is (bytes_eq m.disk u) refl in
         ap (λ (a : List Log). bit (united blank a) (k / piece_sectors)) is
         ∙ elim (same_or_not z.0 y) [
           | inr apart ↦ in_head blank n rest (k / piece_sectors) (h m n k z.0 y p.0 in_n p.1 z.1 sy apart)
-          | inl same ↦ in_rest blank n rest (k / piece_sectors) (ih m rest p.0 w x z.0 sx z.1 (λ q. ne (q ∙ same)))
+          | inl same ↦ in_rest blank n rest (k / piece_sectors) (ih m rest p.0 w (λ l i. some l (subst (λ (a : List Log). In l a) (sym is) (inr i))) x z.0 sx z.1 (λ q. ne (q ∙ same)))
         ]
 
     by_rest : (m : Log) → before n logs ≡ Some m → (r : Option (List Log)) → walk most u logs (Some m) ≡ r
@@ -78,17 +103,17 @@ one_more shows logs u k blank h one most ih n ls in_n e x y sx sy ne = by_end (b
 
     by_end : (b : Bool) → bytes_eq n.disk u ≡ b → (if b then Some [] else (walk most u logs (before n logs) >>= λ rest. Some (n ∷ rest))) ≡ Some ls
         → bit (united blank ls) (k / piece_sectors) ≡ true
-    by_end true q w = absurd (ne (one.one n x y in_n (subst (λ (v : List ℕ). shows v k x) (sym (bytes_eq-same n.disk u q)) sx) sy))
+    by_end true q w = absurd (ne (one x y sx (subst (λ (v : List ℕ). shows v k y) (bytes_eq-same n.disk u q) sy)))
     by_end false q w = by_before (before n logs) refl w
 
-pub walk_covers : (shows : Showing) (logs : List Log) (u : List ℕ) (k : ℕ) (blank : List Bool) → Tells shows logs → ShowsOne shows logs k
+walk_covers : (shows : Showing) (logs : List Log) (u : List ℕ) (k : ℕ) (blank : List Bool) → Tells shows logs → IsOne shows u k
     → (most : ℕ) → Covers shows logs u k blank most
 unfolding walk
-walk_covers shows logs u k blank h one zero = λ n ls in_n e x y sx sy ne. let z : None ≡ Some ls = e in cc
+walk_covers shows logs u k blank h one zero = λ n ls in_n e some x y sx sy ne. let z : None ≡ Some ls = e in cc
 walk_covers shows logs u k blank h one (suc most) = one_more shows logs u k blank h one most (walk_covers shows logs u k blank h one most)
 
 -- The two disks differ in a sector: what is answered names its piece.
-pub changed_covers : (shows : Showing) (logs : List Log) (u n : List ℕ) (pieces k : ℕ) (bits : List Bool) → Tells shows logs → ShowsOne shows logs k
+pub changed_covers : (shows : Showing) (logs : List Log) (u n : List ℕ) (pieces k : ℕ) (bits : List Bool) → Tells shows logs → ShowsAlong shows logs u n k
     → changed pieces u n logs ≡ Some bits → u ≢ n
     → (x y : List ℕ) → shows u k x → shows n k y → x ≢ y → bit bits (k / piece_sectors) ≡ true
 unfolding changed
@@ -106,7 +131,7 @@ changed_covers shows logs u n pieces k bits h one e apart x y sx sy ne = by_same
         let z : Some (united blank ls) ≡ Some bits = b in
         let s : united blank ls ≡ bits = cc in
         ap (λ (c : List Bool). bit c (k / piece_sectors)) (sym s)
-        ∙ walk_covers shows logs u k blank h one (length logs) l ls p.0 w x y sx
+        ∙ walk_covers shows logs u k blank h one.one (length logs) l ls p.0 w (λ m i. one.some ls m (ap (walk (length logs) u logs) q ∙ w) i) x y sx
         (subst (λ (v : List ℕ). shows v k y) (sym (bytes_eq-same l.disk n p.1)) sy) ne
 
     by_same : (b : Bool) → bytes_eq u n ≡ b → (if b then Some (replicate pieces false) else (walked u n logs >>= λ ls. Some (united (replicate pieces false) ls))) ≡ Some bits
@@ -115,10 +140,6 @@ changed_covers shows logs u n pieces k bits h one e apart x y sx sy ne = by_same
     by_same false q w = by_walk (log_of n logs) refl (walk (length logs) u logs (log_of n logs)) refl w
 
 -- ---- as many bits as there are pieces
-
-one_step : (l : Log) (ls : List Log) (r : Option (List Log)) → (r >>= λ rest. Some (l ∷ rest)) ≡ Some ls → (rest : List Log) × (r ≡ Some rest) × (ls ≡ l ∷ rest)
-one_step l ls None e = let z : None ≡ Some ls = e in cc
-one_step l ls (Some rest) e = let z : Some (l ∷ rest) ≡ Some ls = e in let s : l ∷ rest ≡ ls = cc in (rest, refl, sym s)
 
 -- the logs of a walk are some of all logs
 walk_in : (most : ℕ) (u : List ℕ) (logs : List Log) (o : Option Log) (ls : List Log) → ((l : Log) → o ≡ Some l → In l logs) → walk most u logs o ≡ Some ls

@@ -2,7 +2,7 @@
 -- the later one's log names.
 use Rattle.std.specs.Prelude.{◌≡◌, ◌≢◌, ℕ, ◌+◌, ◌*◌, ◌/◌, ◌<◌, ◌≤◌, ◌⊎◌, Bool, true, List, map, length, Some}
 use Rattle.common_laws.specs.Lists.{In, Distinct}
-use Rattle.sm_log.specs.Logs.{Log, piece_sectors, bit, pieces_touched, on_log, touched, split, twin_log, changed}
+use Rattle.sm_log.specs.Logs.{Log, piece_sectors, bit, pieces_touched, on_log, touched, split, twin_log, changed, walked}
 
 -- what may be shown: of a disk, by its UUID, a sector with these bytes
 abbrev pub Showing : Type 1
@@ -18,10 +18,10 @@ abbrev pub Tells : Showing → List Log → Type 0
 Tells shows logs = (a b : Log) (k : ℕ) (x y : List ℕ) → In a logs → In b logs → Follows a b
     → shows a.disk k x → shows b.disk k y → x ≢ y → bit b.bits (k / piece_sectors) ≡ true
 
--- each disk that has a log shows one thing in this sector
-pub record ShowsOne (shows : Showing) (logs : List Log) (k : ℕ) : Type 0 where
-  pub some : (l : Log) → In l logs → (x : List ℕ) × shows l.disk k x
-  pub one : (l : Log) (x y : List ℕ) → In l logs → shows l.disk k x → shows l.disk k y → x ≡ y
+-- each disk on the walk from a later disk back to an earlier one shows something in this sector, and the earlier one shows one thing
+pub record ShowsAlong (shows : Showing) (logs : List Log) (u n : List ℕ) (k : ℕ) : Type 0 where
+  pub some : (ls : List Log) (l : Log) → walked u n logs ≡ Some ls → In l ls → (x : List ℕ) × shows l.disk k x
+  pub one : (x y : List ℕ) → shows u k x → shows u k y → x ≡ y
 
 -- b is a log as a was, with more bits
 pub record HasMore (a b : Log) : Type 0 where
@@ -43,7 +43,7 @@ pub record IsWithin (sector count k : ℕ) : Type 0 where
 
 -- the walk leads back to a disk: each piece in which the two differ is in what it gives
 abbrev pub ChangedCovers : Showing → Type 0
-ChangedCovers shows = (logs : List Log) (u n : List ℕ) (pieces k : ℕ) (bits : List Bool) → Tells shows logs → ShowsOne shows logs k
+ChangedCovers shows = (logs : List Log) (u n : List ℕ) (pieces k : ℕ) (bits : List Bool) → Tells shows logs → ShowsAlong shows logs u n k
     → changed pieces u n logs ≡ Some bits → u ≢ n
     → (x y : List ℕ) → shows u k x → shows n k y → x ≢ y → bit bits (k / piece_sectors) ≡ true
 
