@@ -6,8 +6,8 @@ use Rattle.common_laws.proofs.Lists.{Distinct-filter, Distinct-insert, In-filter
 use Rattle.sm_base.proofs.NumberLemmas.{le-div_up}
 use Rattle.sm_log.specs.Logs.{Log, is_log_of, log_before, log_of, log_sectors, new_log, piece_count, with_log, without_log}
 use Rattle.sm_machine.specs.Shapes.{Shape, ImageRow}
-use Rattle.sm_machine.specs.Refusals.{with_image_of}
-use Rattle.sm_machine.specs.Tracking.{AreGoodLogs, AreOfSnapshots, IsGoodLog, begun, disk_pieces, ended, log_room, with_logs}
+use Rattle.sm_machine.specs.Refusals.{disk_pieces, log_room, with_image_of}
+use Rattle.sm_machine.specs.Tracking.{AreGoodLogs, AreOfSnapshots, IsGoodLog, begun, ended, with_logs}
 use Rattle.sm_machine.specs.WellFormed.{HasRecord, IsWellFormed, uuid_le}
 use Rattle.sm_machine.proofs.LogLists.{no_log, sorted-with_log}
 use Rattle.sm_machine.proofs.Numbers.{risen-up}

@@ -33,8 +33,10 @@ pub mod Swaps
 pub mod Tables
 pub mod Together
 pub mod Tracked
+pub mod TrackedDisks
 pub mod TrackedLogs
 pub mod TrackedSnapshots
 pub mod TrackedTruth
+pub mod Tracks
 pub mod Told
 pub mod Uses

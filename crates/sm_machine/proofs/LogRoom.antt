@@ -1,8 +1,8 @@
 -- Behind the images that a snapshot makes there is room for its log.
-use Rattle.std.proofs.Common.{◌≡◌, ℕ, ◌+◌, ◌-◌, ◌≤◌, Bool, true, false, List, None, refl, arith}
+use Rattle.std.proofs.Common.{◌≡◌, ℕ, ◌+◌, ◌-◌, ◌≤◌, Bool, true, false, List, None, refl, ap, arith}
 use Rattle.std.proofs.lemmas.Bool.{ltb-false}
 use Rattle.sm_machine.specs.declared.commands.Command.{Command}
-use Rattle.sm_machine.specs.declared.commands.Command.TheVariants.{Snapshot}
+use Rattle.sm_machine.specs.declared.commands.Command.TheVariants.{Snapshot, Track}
 use Rattle.sm_machine.specs.Shapes.{Shape, disk_image, free, image_extents, risen}
 use Rattle.sm_machine.specs.Refusals.{fork_need, lacks_space, log_need, need, refusal, with_image_of}
 use Rattle.sm_machine.specs.Commits.{commits, is_given_up}
@@ -11,6 +11,7 @@ use Rattle.sm_machine.specs.WellFormed.{IsWellFormed}
 use Rattle.sm_machine.proofs.Forks.{fork_extents}
 use Rattle.sm_machine.proofs.Passed.{IsPassed, passed}
 use Rattle.sm_machine.proofs.Steps.{snapshot_facts}
+use Rattle.sm_machine.proofs.Tracks.{track_next}
 
 -- neither an operation that is given up nor a count of commits takes room
 free_given : (b : Bool) (t : Shape) (n : ℕ) → free (record (given_up b t) { sequence = n }) ≡ free t
@@ -31,7 +32,14 @@ snapshot_room s u twin w e =
     let grown : image_extents (fork_images s u twin (disk_image u s)) ≤ image_extents s.images + with_image_of (fork_need s u) (disk_image u s) = fork_extents s w u twin (snapshot_facts s u twin p) in
     omega (arith, grown, h)
 
+track_room : (s : Shape) (u : List ℕ) → IsWellFormed s → refusal s (Track u true) ≡ None → log_need s (Track u true) ≤ free s
+unfolding need lacks_space
+track_room s u w e =
+    let p : IsPassed s (Track u true) = passed s (Track u true) e in
+    ltb-false (free s) (log_need s (Track u true)) p.space
+
 pub tracked_room : (s : Shape) (c : Command) → IsWellFormed s → refusal s c ≡ None → log_need s c ≤ free (shape_next s c)
 unfolding log_need
 tracked_room s (Snapshot u twin) w e = omega (arith, snapshot_free s u twin, snapshot_room s u twin w e)
+tracked_room s (Track u true) w e = omega (arith, ap free (track_next s u true w), track_room s u w e)
 tracked_room s _ w e = omega arith

@@ -2,7 +2,7 @@
 use Rattle.std.proofs.Common.{◌≡◌, List, Option, Some, None, refl}
 use Rattle.sm_base.specs.declared.refusals.Refusal.{Refusal}
 use Rattle.sm_machine.specs.declared.commands.Command.{Command}
-use Rattle.sm_machine.specs.declared.commands.Command.TheVariants.{Create, Delete, Attach, Detach, Snapshot, Clone, Resize, Label, Write, Fill, Read, Flush, Gc, List as Listing, Stat}
+use Rattle.sm_machine.specs.declared.commands.Command.TheVariants.{Create, Delete, Attach, Detach, Snapshot, Clone, Resize, Label, Write, Fill, Read, Flush, Gc, List as Listing, Stat, Track, Changed}
 use Rattle.sm_machine.specs.declared.replies.Reply.TheVariants as reply
 use Rattle.sm_machine.specs.Disks.{Disk}
 use Rattle.sm_machine.specs.Shapes.{Shape}
@@ -28,6 +28,8 @@ accepted_reply disks s (Flush u) r e = cc
 accepted_reply disks s Gc r e = cc
 accepted_reply disks s Listing r e = cc
 accepted_reply disks s Stat r e = cc
+accepted_reply disks s (Track u on) r e = cc
+accepted_reply disks s (Changed u n) r e = cc
 
 by_refusal : (o : Option Refusal) (σ : State) (c : Command) (r : Refusal) → (unless_refused o σ c).reply ≡ reply.No r → (unless_refused o σ c).after ≡ σ
 unfolding accepted

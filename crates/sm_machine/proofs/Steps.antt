@@ -6,7 +6,7 @@ use Rattle.sm_base.specs.declared.operations.Mode.TheVariants.{Ro, Rw}
 use Rattle.sm_machine.specs.Operations as op
 use Rattle.sm_base.specs.declared.refusals.Refusal.{Refusal}
 use Rattle.sm_machine.specs.declared.commands.Command.{Command}
-use Rattle.sm_machine.specs.declared.commands.Command.TheVariants.{Create, Delete, Attach, Detach, Snapshot, Clone, Resize, Label, Write, Fill, Read, Flush, Gc, List as Listing, Stat}
+use Rattle.sm_machine.specs.declared.commands.Command.TheVariants.{Create, Delete, Attach, Detach, Snapshot, Clone, Resize, Label, Write, Fill, Read, Flush, Gc, List as Listing, Stat, Track, Changed}
 use Rattle.sm_machine.specs.Disks.{sector_bytes}
 use Rattle.sm_machine.specs.Shapes.{Shape, disk_image, free, risen, last_sequence}
 use Rattle.sm_machine.specs.Refusals.{fork_need, log_need, refusal, with_image_of, named, new_uuid, forked, images_needed, need, is_reserved, is_unknown, is_taken, is_deep, is_too_many, is_spent, lacks_space}
@@ -115,6 +115,8 @@ next_keeps s (Flush u) w p = counted s s _ w refl w
 next_keeps s Gc w p = counted s (collected (next_step s) s) _ w (gc_sequence (next_step s) s) (gc_keeps s w)
 next_keeps s Listing w p = counted s s _ w refl w
 next_keeps s Stat w p = counted s s _ w refl w
+next_keeps s (Track u on) w p = counted s s _ w refl w
+next_keeps s (Changed u n) w p = counted s s _ w refl w
 
 by_refusal : (σ : State) (c : Command) (o : Option Refusal) → refusal σ.shape c ≡ o → IsWellFormed σ.shape → IsWellFormed ((unless_refused o σ c).after.shape)
 unfolding accepted

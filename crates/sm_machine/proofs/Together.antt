@@ -13,7 +13,7 @@ use Rattle.sm_machine.specs.Operations.{Op}
 use Rattle.sm_machine.specs.Operations as op
 use Rattle.sm_base.specs.declared.refusals.Refusal.{Refusal}
 use Rattle.sm_machine.specs.declared.commands.Command.{Command}
-use Rattle.sm_machine.specs.declared.commands.Command.TheVariants.{Create, Delete, Attach, Detach, Snapshot, Clone, Resize, Label, Write, Fill, Read, Flush, Gc, List as Listing, Stat}
+use Rattle.sm_machine.specs.declared.commands.Command.TheVariants.{Create, Delete, Attach, Detach, Snapshot, Clone, Resize, Label, Write, Fill, Read, Flush, Gc, List as Listing, Stat, Track, Changed}
 use Rattle.common_laws.specs.Lists.{In, insert_by, change, when}
 use Rattle.sm_machine.specs.Disks.{Disk, sector_bytes, filled, cut_sectors, sectors_of_bytes, overwritten, is_disk, with_disk, on_disk}
 use Rattle.sm_machine.specs.Shapes.{Shape, ImageRow, DiskRecord, image_uuid, is_image, on_image, children, top, thin_in, with_image, is_image_of, disk_image, disk_record}
@@ -419,6 +419,8 @@ after_together disks s (Flush u) w a p = a
 after_together disks s Gc w a p = let k : Kept s (collected (next_step s) s) = collected_seen s w in same_sectors disks s w a (collected (next_step s) s) k.0 k.1
 after_together disks s Listing w a p = a
 after_together disks s Stat w a p = a
+after_together disks s (Track u on) w a p = a
+after_together disks s (Changed u n) w a p = a
 
 pub next_together : (disks : List Disk) (s : Shape) (c : Command) → IsWellFormed s → AreDisksOf disks s → IsPassed s c → AreDisksOf (disks_next disks s c) (shape_next s c)
 unfolding shape_next

@@ -1,5 +1,6 @@
 -- What a step does to logs keeps a shape well-formed; where no disk is tracked it is nothing.
 use Rattle.std.proofs.Common.{◌≡◌, ℕ, ◌+◌, ◌-◌, ◌/◌, ◌≤◌, Bool, true, false, List, [], length, map, Option, Some, None, refl, sym, ap, ◌∙◌, subst, arith}
+use Rattle.std.specs.Prelude.{is_none}
 use Rattle.sm_base.specs.declared.names.Name.{Name}
 use Rattle.sm_base.specs.declared.operations.Plan.{Plan}
 use Rattle.sm_base.specs.declared.operations.Plan.TheVariants as plan
@@ -9,20 +10,20 @@ use Rattle.sm_log.specs.Logs.{Log, log_of, log_extents, new_log, on_log, with_lo
 use Rattle.sm_machine.specs.Operations.{Op}
 use Rattle.sm_machine.specs.Operations as op
 use Rattle.sm_machine.specs.declared.commands.Command.{Command}
-use Rattle.sm_machine.specs.declared.commands.Command.TheVariants.{Create, Delete, Attach, Detach, Snapshot, Clone, Resize, Label, Write, Fill, Read, Flush, Gc, List as Listing, Stat}
+use Rattle.sm_machine.specs.declared.commands.Command.TheVariants.{Create, Delete, Attach, Detach, Snapshot, Clone, Resize, Label, Write, Fill, Read, Flush, Gc, List as Listing, Stat, Track, Changed}
 use Rattle.sm_machine.specs.Disks.{sector_bytes}
 use Rattle.sm_machine.specs.Shapes.{Shape, free, last_sequence, risen}
-use Rattle.sm_machine.specs.Refusals.{log_need, of_log, refusal}
+use Rattle.sm_machine.specs.Refusals.{disk_pieces, is_untracked, log_need, log_room, of_log, refusal}
 use Rattle.sm_machine.specs.Collector.{collected, copied, linked, next_step, swapped}
 use Rattle.sm_machine.specs.Commits.{commits, is_given_up}
 use Rattle.sm_machine.specs.Steps.{State, accepted, unless_refused, step, given_up, shape_after, shape_next}
-use Rattle.sm_machine.specs.Tracking.{AreGoodLogs, AreUntracked, begun, disk_pieces, ended, log_commits, log_room, logs_after, tracked, tracked_step, tracked_unless, with_logs}
+use Rattle.sm_machine.specs.Tracking.{AreGoodLogs, AreUntracked, begins_log, begun, ended, log_commits, logs_after, tracked, tracked_step, tracked_unless, with_logs}
 use Rattle.sm_machine.specs.WellFormed.{AreDisksOf, IsWellFormed, uuid_le}
 use Rattle.sm_machine.proofs.Counted.{keeps_counted}
 use Rattle.sm_machine.proofs.LogRoom.{tracked_room}
 use Rattle.sm_machine.proofs.LogLists.{extents-on_log, extents-with_log, extents-without}
 use Rattle.sm_machine.proofs.Numbers.{risen-last, risen-up}
-use Rattle.sm_machine.proofs.Passed.{passed}
+use Rattle.sm_machine.proofs.Passed.{IsPassed, passed}
 use Rattle.sm_machine.proofs.Steps.{next_keeps}
 use Rattle.sm_machine.proofs.Together.{step_keeps_disks}
 
@@ -93,6 +94,8 @@ after_beside s (Flush u) = same_beside s
 after_beside s Gc = gc_beside (next_step s) s
 after_beside s Listing = same_beside s
 after_beside s Stat = same_beside s
+after_beside s (Track u on) = same_beside s
+after_beside s (Changed u n) = same_beside s
 
 given_beside : (s t : Shape) (b : Bool) → IsBeside s t → IsBeside s (given_up b t)
 given_beside s t true h = record { logs = h.logs; others = h.others; extent = h.extent }
@@ -135,6 +138,9 @@ after_need s (Flush u) = omega arith
 after_need s Gc = omega arith
 after_need s Listing = omega arith
 after_need s Stat = omega arith
+after_need s (Track u true) = omega (arith, extents-with_log (new_log u (log_room s u) (disk_pieces u s)) s.logs)
+after_need s (Track u false) = omega (arith, extents-without u s.logs)
+after_need s (Changed u n) = omega arith
 
 tracked_keeps : (s : Shape) (c : Command) → IsWellFormed (shape_next s c) → AreGoodLogs s → log_need s c ≤ free (shape_next s c) → IsWellFormed (tracked s c (shape_next s c))
 tracked_keeps s c w g room =
@@ -199,41 +205,47 @@ tracked_counted s c = counted_twice s.sequence (commits s c) (log_commits s c)
 
 -- ---- no disk is tracked
 
-pub none_after : (s : Shape) (c : Command) → s.logs ≡ [] → logs_after s c ≡ []
-unfolding logs_after
-none_after s (Create u size raw label) e = e
-none_after s (Delete u) e = ap (without_log u) e
-none_after s (Attach u mode) e = e
-none_after s (Detach u) e = e
-none_after s (Snapshot u twin) e = ap (split u twin s.sequence) e
-none_after s (Clone u twin) e = e
-none_after s (Resize u size) e = e
-none_after s (Label u text) e = e
-none_after s (Write u sector bytes) e = ap (on_log u (touched sector (length bytes / sector_bytes))) e
-none_after s (Fill u sector count byte) e = ap (on_log u (touched sector count)) e
-none_after s (Read u sector count) e = e
-none_after s (Flush u) e = e
-none_after s Gc e = e
-none_after s Listing e = e
-none_after s Stat e = e
+none_after : (s : Shape) (c : Command) → s.logs ≡ [] → begins_log c ≡ false → logs_after s c ≡ []
+unfolding logs_after begins_log
+none_after s (Create u size raw label) e b = e
+none_after s (Delete u) e b = ap (without_log u) e
+none_after s (Attach u mode) e b = e
+none_after s (Detach u) e b = e
+none_after s (Snapshot u twin) e b = ap (split u twin s.sequence) e
+none_after s (Clone u twin) e b = e
+none_after s (Resize u size) e b = e
+none_after s (Label u text) e b = e
+none_after s (Write u sector bytes) e b = ap (on_log u (touched sector (length bytes / sector_bytes))) e
+none_after s (Fill u sector count byte) e b = ap (on_log u (touched sector count)) e
+none_after s (Read u sector count) e b = e
+none_after s (Flush u) e b = e
+none_after s Gc e b = e
+none_after s Listing e b = e
+none_after s Stat e b = e
+none_after s (Track u true) e b = cc
+none_after s (Track u false) e b = ap (without_log u) e
+none_after s (Changed u n) e b = e
 
-none_counted : (s : Shape) (c : Command) → s.logs ≡ [] → log_commits s c ≡ 0
-unfolding log_commits
-none_counted s (Create u size raw label) e = refl
-none_counted s (Delete u) e = ap (λ (ls : List Log). of_log (λ (l : Log). 1) (log_of u ls)) e
-none_counted s (Attach u mode) e = refl
-none_counted s (Detach u) e = refl
-none_counted s (Snapshot u twin) e = ap (λ (ls : List Log). of_log (λ (l : Log). 2) (log_of u ls)) e
-none_counted s (Clone u twin) e = refl
-none_counted s (Resize u size) e = refl
-none_counted s (Label u text) e = refl
-none_counted s (Write u sector bytes) e = refl
-none_counted s (Fill u sector count byte) e = refl
-none_counted s (Read u sector count) e = refl
-none_counted s (Flush u) e = refl
-none_counted s Gc e = refl
-none_counted s Listing e = refl
-none_counted s Stat e = refl
+none_counted : (s : Shape) (c : Command) → s.logs ≡ [] → begins_log c ≡ false → IsPassed s c → log_commits s c ≡ 0
+unfolding log_commits begins_log is_untracked
+none_counted s (Create u size raw label) e b p = refl
+none_counted s (Delete u) e b p = ap (λ (ls : List Log). of_log (λ (l : Log). 1) (log_of u ls)) e
+none_counted s (Attach u mode) e b p = refl
+none_counted s (Detach u) e b p = refl
+none_counted s (Snapshot u twin) e b p = ap (λ (ls : List Log). of_log (λ (l : Log). 2) (log_of u ls)) e
+none_counted s (Clone u twin) e b p = refl
+none_counted s (Resize u size) e b p = refl
+none_counted s (Label u text) e b p = refl
+none_counted s (Write u sector bytes) e b p = refl
+none_counted s (Fill u sector count byte) e b p = refl
+none_counted s (Read u sector count) e b p = refl
+none_counted s (Flush u) e b p = refl
+none_counted s Gc e b p = refl
+none_counted s Listing e b p = refl
+none_counted s Stat e b p = refl
+none_counted s (Track u true) e b p = cc
+none_counted s (Track u false) e b p = let t : is_none (log_of u s.logs) ≡ true = ap (λ (ls : List Log). is_none (log_of u ls)) e in cc
+none_counted s (Changed u n) e b p = refl
 
 -- a shape with the logs that it has, and no commit more
 same_logged : (t : Shape) (logs : List Log) → logs ≡ t.logs → t.sequence ≤ last_sequence → with_logs logs 0 t ≡ t
@@ -252,18 +264,21 @@ same_tracked s c same none =
     let t = shape_next s c in
     ap (λ (k : ℕ). with_logs (logs_after s c) k t) none ∙ same_logged t (logs_after s c) (same ∙ sym (next_beside s c).logs) (next_last s c)
 
-unlogged_by : (σ : State) (c : Command) (o : Option Refusal) → logs_after σ.shape c ≡ σ.shape.logs → log_commits σ.shape c ≡ 0 → tracked_unless o σ c ≡ unless_refused o σ c
+unlogged_by : (σ : State) (c : Command) (o : Option Refusal) → refusal σ.shape c ≡ o → logs_after σ.shape c ≡ σ.shape.logs
+    → (IsPassed σ.shape c → log_commits σ.shape c ≡ 0) → tracked_unless o σ c ≡ unless_refused o σ c
 unfolding accepted
-unlogged_by σ c (Some r) same none = refl
-unlogged_by σ c None same none =
-    ap (λ (t : Shape). record { reply = (accepted σ c).reply; after = record { disks = (accepted σ c).after.disks; shape = t } }) (same_tracked σ.shape c same none)
+unlogged_by σ c (Some r) e same none = refl
+unlogged_by σ c None e same none =
+    ap (λ (t : Shape). record { reply = (accepted σ c).reply; after = record { disks = (accepted σ c).after.disks; shape = t } })
+    (same_tracked σ.shape c same (none (passed σ.shape c e)))
 
 pub unlogged_is_step : (σ : State) (c : Command) → logs_after σ.shape c ≡ σ.shape.logs → log_commits σ.shape c ≡ 0 → tracked_step σ c ≡ step σ c
 unfolding tracked_step step
-unlogged_is_step σ c same none = unlogged_by σ c (refusal σ.shape c) same none
+unlogged_is_step σ c same none = unlogged_by σ c (refusal σ.shape c) refl same (λ p. none)
 
-pub untracked_is_step : (σ : State) (c : Command) → AreUntracked σ.shape → tracked_step σ c ≡ step σ c
-untracked_is_step σ c none = unlogged_is_step σ c (none_after σ.shape c none ∙ sym none) (none_counted σ.shape c none)
+pub untracked_is_step : (σ : State) (c : Command) → AreUntracked σ.shape → begins_log c ≡ false → tracked_step σ c ≡ step σ c
+unfolding tracked_step step
+untracked_is_step σ c none b = unlogged_by σ c (refusal σ.shape c) refl (none_after σ.shape c none b ∙ sym none) (none_counted σ.shape c none b)
 
 pub untracked_good : (s : Shape) → AreUntracked s → AreGoodLogs s
 unfolding log_extents

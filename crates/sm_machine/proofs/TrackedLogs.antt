@@ -12,14 +12,15 @@ use Rattle.sm_base.specs.declared.refusals.Refusal.{Refusal}
 use Rattle.sm_log.specs.Logs.{Log, is_log_of, log_before, log_extents, log_of, log_sectors, on_log, with_log, without_log, begun_anew, split_of, touched, twin_log, pieces_touched, piece_count}
 use Rattle.sm_log.proofs.BitLaws.{marked-long}
 use Rattle.sm_machine.specs.declared.commands.Command.{Command}
-use Rattle.sm_machine.specs.declared.commands.Command.TheVariants.{Create, Delete, Attach, Detach, Snapshot, Clone, Resize, Label, Write, Fill, Read, Flush, Gc, List as Listing, Stat}
+use Rattle.sm_machine.specs.declared.commands.Command.TheVariants.{Create, Delete, Attach, Detach, Snapshot, Clone, Resize, Label, Write, Fill, Read, Flush, Gc, List as Listing, Stat, Track, Changed}
 use Rattle.sm_machine.specs.Disks.{Disk, sector_bytes, filled, is_disk, on_disk, sectors_of_bytes, with_disk}
 use Rattle.sm_machine.specs.Shapes.{Shape, risen}
-use Rattle.sm_machine.specs.Refusals.{of_log, is_tracked, is_outside, is_out_of_range, refusal, rounded}
+use Rattle.sm_machine.specs.Refusals.{of_log, is_tracked, is_unknown, named, is_outside, is_out_of_range, refusal, rounded}
 use Rattle.sm_machine.specs.Commits.{commits, is_given_up, own_commits}
 use Rattle.sm_machine.specs.Steps.{State, accepted, disks_next, fork_disks, grown_disk, shape_next, written_disk}
 use Rattle.sm_machine.specs.Tracking.{AreGoodLogs, IsGoodLog, log_commits, logs_after, tracked, tracked_step, tracked_unless, with_logs}
 use Rattle.sm_machine.specs.WellFormed.{AreDisksOf, HasRecord, IsWellFormed, uuid_le}
+use Rattle.sm_machine.proofs.BegunLogs.{begun_logs}
 use Rattle.sm_machine.proofs.Fresh
 use Rattle.sm_machine.proofs.Forks.{IsForkable}
 use Rattle.sm_machine.proofs.LogDisks.{IsOfDisk, KeepsDisk, Stays, are_blanks, blanks, disk_pieces_are, disk_recorded, disk_there, log_disk, stays_beside, stays_changed, stays_forked, stays_kept, stays_same}
@@ -29,6 +30,7 @@ use Rattle.sm_machine.proofs.Passed.{IsPassed, passed}
 use Rattle.sm_machine.proofs.Steps.{at_least_eight, next_keeps, risen-above, snapshot_facts}
 use Rattle.sm_machine.proofs.Together.{length-cut, length-overwritten, next_together, within}
 use Rattle.sm_machine.proofs.Tracked.{IsBeside, next_beside}
+use Rattle.sm_machine.proofs.Tracks.{begun_by, record_known}
 
 -- a log as another was, but for its bits and the snapshot since which it has them
 pub record IsLike (l m : Log) : Type 0 where
@@ -348,6 +350,7 @@ module _ (s : Shape) (w : IsWellFormed s) (g : AreGoodLogs s) where
   -- the logs of a command that stay: all but that of a disk that is deleted
   abbrev pub rest : Command → List Log
   rest (Delete u) = without_log u s.logs
+  rest (Track u false) = without_log u s.logs
   rest c = s.logs
 
   -- their disks stay
@@ -370,9 +373,11 @@ module _ (s : Shape) (w : IsWellFormed s) (g : AreGoodLogs s) where
   stays Gc p l d h i q = stays_same (blanks s) d i
   stays Listing p l d h i q = stays_same (blanks s) d i
   stays Stat p l d h i q = stays_same (blanks s) d i
+  stays (Track u on) p l d h i q = stays_same (blanks s) d i
+  stays (Changed u n) p l d h i q = stays_same (blanks s) d i
 
   pub tracked_good : (c : Command) → IsPassed s c → AreGoodLogs (tracked s c (shape_next s c))
-  unfolding logs_after log_commits
+  unfolding logs_after log_commits is_tracked is_unknown named
   tracked_good (Create u size raw label) p = same_logs s w g (Create u size raw label) p (stays (Create u size raw label) p)
   tracked_good (Delete u) p = fewer_logs s w g (Delete u) p u (of_log (λ (l : Log). 1) (log_of u s.logs)) (stays (Delete u) p)
   tracked_good (Attach u mode) p = same_logs s w g (Attach u mode) p (stays (Attach u mode) p)
@@ -388,6 +393,9 @@ module _ (s : Shape) (w : IsWellFormed s) (g : AreGoodLogs s) where
   tracked_good Gc p = same_logs s w g Gc p (stays Gc p)
   tracked_good Listing p = same_logs s w g Listing p (stays Listing p)
   tracked_good Stat p = same_logs s w g Stat p (stays Stat p)
+  tracked_good (Track u true) p = subst AreGoodLogs (sym (begun_by s u w)) (begun_logs s w g u (record_known s u p.unknown) (none_of (log_of u s.logs) p.tracked))
+  tracked_good (Track u false) p = fewer_logs s w g (Track u false) p u 1 (stays (Track u false) p)
+  tracked_good (Changed u n) p = same_logs s w g (Changed u n) p (stays (Changed u n) p)
 
 good_by : (σ : State) (c : Command) (o : Option Refusal) → refusal σ.shape c ≡ o → IsWellFormed σ.shape → AreGoodLogs σ.shape → AreGoodLogs ((tracked_unless o σ c).after.shape)
 unfolding accepted

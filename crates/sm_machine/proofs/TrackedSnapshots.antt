@@ -1,14 +1,14 @@
 -- Each log with a tag is that of a snapshot, over each step.
-use Rattle.std.proofs.Common.{◌≡◌, ◌≢◌, ◌/◌, ℕ, true, not, List, length, Option, Some, None, refl, sym, ◌∙◌, subst, inl, inr}
+use Rattle.std.proofs.Common.{◌≡◌, ◌≢◌, ◌/◌, ℕ, true, false, not, List, length, Option, Some, None, refl, sym, ap, ◌∙◌, subst, inl, inr}
 use Rattle.common_laws.specs.Lists.{In, when}
 use Rattle.common_laws.proofs.Lists.{In-filter, In-insert}
 use Rattle.sm_base.specs.declared.refusals.Refusal.{Refusal}
-use Rattle.sm_log.specs.Logs.{Log, begun_anew, is_log_of, log_before, log_of, on_log, split_of, touched, twin_log, with_log, without_log}
+use Rattle.sm_log.specs.Logs.{Log, begun_anew, is_log_of, log_before, log_of, new_log, on_log, split_of, touched, twin_log, with_log, without_log}
 use Rattle.sm_machine.specs.declared.commands.Command.{Command}
-use Rattle.sm_machine.specs.declared.commands.Command.TheVariants.{Create, Delete, Attach, Detach, Snapshot, Clone, Resize, Label, Write, Fill, Read, Flush, Gc, List as Listing, Stat}
+use Rattle.sm_machine.specs.declared.commands.Command.TheVariants.{Create, Delete, Attach, Detach, Snapshot, Clone, Resize, Label, Write, Fill, Read, Flush, Gc, List as Listing, Stat, Track, Changed}
 use Rattle.sm_machine.specs.Disks.{Disk, sector_bytes}
 use Rattle.sm_machine.specs.Shapes.{Shape}
-use Rattle.sm_machine.specs.Refusals.{is_snapshot, refusal}
+use Rattle.sm_machine.specs.Refusals.{disk_pieces, is_snapshot, log_room, refusal}
 use Rattle.sm_machine.specs.Steps.{State, accepted, disks_next, shape_next}
 use Rattle.sm_machine.specs.Tracking.{AreGoodLogs, AreOfSnapshots, logs_after, tracked_step, tracked_unless}
 use Rattle.sm_machine.specs.WellFormed.{IsWellFormed}
@@ -57,8 +57,18 @@ module _ (s : Shape) (w : IsWellFormed s) (g : AreGoodLogs s) (a : AreOfSnapshot
         | inr i ↦ changed_marked (Snapshot u twin) p (λ l h. h) u (begun_anew s.sequence) (anew_gentle s.sequence) m i t
       ]
 
+  begun_marked : (u : List ℕ) (p : IsPassed s (Track u true)) → Marked (Track u true) (with_log (new_log u (log_room s u) (disk_pieces u s)) s.logs)
+  unfolding with_log
+  begun_marked u p l h t = elim (In-insert log_before (new_log u (log_room s u) (disk_pieces u s)) s.logs l h) [
+    | inl e ↦ absurd (t (ap (λ (x : Log). x.tag) e))
+    | inr k ↦ same_marked (Track u true) p (λ l h. h) l k t
+  ]
+
+  ended_marked : (u : List ℕ) (p : IsPassed s (Track u false)) → Marked (Track u false) (without_log u s.logs)
+  ended_marked u p l h t = like_marked (Track u false) p l l (In-filter (λ (x : Log). not (is_log_of u x)) s.logs l h).0 h (record { disk = refl; extents = refl; tag = refl; long = refl }) t
+
   marked_after : (c : Command) → IsPassed s c → Marked c (logs_after s c)
-  unfolding logs_after
+  unfolding logs_after with_log
   marked_after (Create u size raw label) p = same_marked (Create u size raw label) p (λ l h. h)
   marked_after (Delete u) p = fewer_marked u p
   marked_after (Attach u mode) p = same_marked (Attach u mode) p (λ l h. h)
@@ -74,6 +84,9 @@ module _ (s : Shape) (w : IsWellFormed s) (g : AreGoodLogs s) (a : AreOfSnapshot
   marked_after Gc p = same_marked Gc p (λ l h. h)
   marked_after Listing p = same_marked Listing p (λ l h. h)
   marked_after Stat p = same_marked Stat p (λ l h. h)
+  marked_after (Track u true) p = begun_marked u p
+  marked_after (Track u false) p = ended_marked u p
+  marked_after (Changed u n) p = same_marked (Changed u n) p (λ l h. h)
 
 marked_by : (σ : State) (c : Command) (o : Option Refusal) → refusal σ.shape c ≡ o → IsWellFormed σ.shape → AreGoodLogs σ.shape → AreOfSnapshots σ.shape
     → AreOfSnapshots ((tracked_unless o σ c).after.shape)

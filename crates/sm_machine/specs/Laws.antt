@@ -13,15 +13,15 @@ use Rattle.sm_machine.specs.declared.replies.Reply.TheVariants as reply
 use Rattle.sm_base.specs.Numbers.{IsGeometry}
 use Rattle.sm_log.specs.Logs.{log_of}
 use Rattle.sm_log.specs.Told.{Tells}
-use Rattle.sm_machine.specs.declared.commands.Command.TheVariants.{Gc}
+use Rattle.sm_machine.specs.declared.commands.Command.TheVariants.{Gc, Track}
 use Rattle.sm_machine.specs.Disks.{Disk}
 use Rattle.sm_machine.specs.Shapes.{Shape, ImageRow, Attachment, free, image_uuid, is_image_of, is_vhd, new_shape, on_image, reads_through, refs, risen, thick_in, with_image, without_image}
 use Rattle.sm_machine.specs.Collector.{next_step, is_garbage, is_loose, pairs, leaves, lives, debt, IsLess}
 use Rattle.sm_machine.specs.Runs.{HasSector}
 use Rattle.sm_machine.specs.Steps.{State, is_attached, shape_next, step}
 use Rattle.sm_machine.specs.Commits.{commits}
-use Rattle.sm_machine.specs.Refusals.{log_need, refusal}
-use Rattle.sm_machine.specs.Tracking.{AreGoodLogs, AreOfSnapshots, AreUntracked, begun, ended, log_commits, log_room, logs_after, tracked, tracked_step}
+use Rattle.sm_machine.specs.Refusals.{log_need, log_room, refusal}
+use Rattle.sm_machine.specs.Tracking.{AreGoodLogs, AreOfSnapshots, AreUntracked, begins_log, begun, ended, log_commits, logs_after, tracked, tracked_step}
 use Rattle.sm_machine.specs.WellFormed.{AreDisksOf, HasRecord, IsOperation, IsSize, IsWellFormed}
 
 -- a refused command changes neither disks nor shape
@@ -166,29 +166,32 @@ TrackedStepKeepsDisks = (σ : State) (c : Command) → IsWellFormed σ.shape →
     → AreDisksOf ((tracked_step σ c).after.disks) ((tracked_step σ c).after.shape)
 
 -- a step with what it does to logs: disks and reply are those of the step without, and so is all of it where logs stay and no commit is made
--- for one, as where no disk is tracked; a refused command changes nothing; the commits of both are counted
+-- for one, as where no disk is tracked and none gets a log; a refused command changes nothing; the commits of both are counted
 pub record TrackedStepFollows : Type 0 where
   pub disks : (σ : State) (c : Command) → (tracked_step σ c).after.disks ≡ (step σ c).after.disks
   pub answer : (σ : State) (c : Command) → (tracked_step σ c).reply ≡ (step σ c).reply
   pub unlogged : (σ : State) (c : Command) → logs_after σ.shape c ≡ σ.shape.logs → log_commits σ.shape c ≡ 0 → tracked_step σ c ≡ step σ c
-  pub untracked : (σ : State) (c : Command) → AreUntracked σ.shape → tracked_step σ c ≡ step σ c
+  pub untracked : (σ : State) (c : Command) → AreUntracked σ.shape → begins_log c ≡ false → tracked_step σ c ≡ step σ c
   pub refused : (σ : State) (c : Command) (r : Refusal) → (tracked_step σ c).reply ≡ reply.No r → (tracked_step σ c).after ≡ σ
   pub counted : (s : Shape) (c : Command) → (tracked s c (shape_next s c)).sequence ≡ risen s.sequence (commits s c + log_commits s c)
 
 -- tracking begins for a disk that is there and has no log: the shape stays well-formed where its log finds room, logs stay good, and what
--- they tell stays true
+-- they tell stays true. An accepted line that begins it does this and nothing else
 pub record TrackingBegins : Type 0 where
   pub shape : (s : Shape) (u : List ℕ) → IsWellFormed s → AreGoodLogs s → log_room s u ≤ free s → IsWellFormed (begun s u)
   pub logs : (s : Shape) (u : List ℕ) → IsWellFormed s → AreGoodLogs s → HasRecord s u → log_of u s.logs ≡ None → AreGoodLogs (begun s u)
   pub snapshots : (s : Shape) (u : List ℕ) → AreOfSnapshots s → AreOfSnapshots (begun s u)
   pub tells : (disks : List Disk) (s : Shape) (u : List ℕ) → Tells (HasSector disks) s.logs → Tells (HasSector disks) (begun s u).logs
+  pub step : (σ : State) (u : List ℕ) → IsWellFormed σ.shape → refusal σ.shape (Track u true) ≡ None → (tracked_step σ (Track u true)).after ≡ record σ { shape = begun σ.shape u }
 
--- tracking ends: the shape stays well-formed, logs stay good, and what they tell stays true
+-- tracking ends: the shape stays well-formed, logs stay good, and what they tell stays true. An accepted line that ends it does this and
+-- nothing else
 pub record TrackingEnds : Type 0 where
   pub shape : (s : Shape) (u : List ℕ) → IsWellFormed s → AreGoodLogs s → IsWellFormed (ended s u)
   pub logs : (s : Shape) (u : List ℕ) → IsWellFormed s → AreGoodLogs s → AreGoodLogs (ended s u)
   pub snapshots : (s : Shape) (u : List ℕ) → AreOfSnapshots s → AreOfSnapshots (ended s u)
   pub tells : (disks : List Disk) (s : Shape) (u : List ℕ) → Tells (HasSector disks) s.logs → Tells (HasSector disks) (ended s u).logs
+  pub step : (σ : State) (u : List ℕ) → IsWellFormed σ.shape → refusal σ.shape (Track u false) ≡ None → (tracked_step σ (Track u false)).after ≡ record σ { shape = ended σ.shape u }
 
 -- a shape without logs has good ones
 abbrev pub UntrackedIsGood : Type 0

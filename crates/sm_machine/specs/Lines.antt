@@ -13,7 +13,7 @@ use Rattle.sm_base.specs.Labels.{is_label}
 use Rattle.sm_base.specs.declared.operations.Mode.{Mode}
 use Rattle.sm_base.specs.declared.operations.Mode.TheVariants.{Ro, Rw}
 use Rattle.sm_machine.specs.declared.commands.Command.{Command}
-use Rattle.sm_machine.specs.declared.commands.Command.TheVariants.{Create, Delete, Attach, Detach, Snapshot, Clone, Resize, Label, Write, Fill, Read, Flush, Gc, List as Listing, Stat}
+use Rattle.sm_machine.specs.declared.commands.Command.TheVariants.{Create, Delete, Attach, Detach, Snapshot, Clone, Resize, Label, Write, Fill, Read, Flush, Gc, List as Listing, Stat, Track, Changed}
 
 -- a byte in front of the lines that follow it: a newline ends an empty line, another byte begins the first line
 abbrev pub onto : Bool → ℕ → List (List ℕ) → List (List ℕ)
@@ -100,7 +100,7 @@ after_disk command (disk ∷ []) = do
   Some (command u)
 after_disk command _ = None
 
--- a disk and the UUID of a new one
+-- a disk and another UUID
 unfoldable pub after_twin : (List ℕ → List ℕ → Command) → List (List ℕ) → Option Command
 after_twin command (disk ∷ twin ∷ []) = do
   u ← uuid_of disk
@@ -160,6 +160,18 @@ after_read (disk ∷ sector ∷ count ∷ []) = do
   Some (Read u s n)
 after_read _ = None
 
+-- whether tracking is to begin or to end
+unfoldable pub is_on_of : List ℕ → Option Bool
+is_on_of word = if bytes_eq word (codes "on") then Some true else if bytes_eq word (codes "off") then Some false else None
+
+-- after `cbt`: a disk, and whether it is to be tracked
+unfoldable pub after_cbt : List (List ℕ) → Option Command
+after_cbt (disk ∷ word ∷ []) = do
+  u ← uuid_of disk
+  on ← is_on_of word
+  Some (Track u on)
+after_cbt _ = None
+
 -- a word that stands alone
 unfoldable pub alone : Command → List (List ℕ) → Option Command
 alone command [] = Some command
@@ -184,6 +196,8 @@ spelled_words (verb ∷ rest) =
     else if bytes_eq verb (codes "gc") then alone Gc rest
     else if bytes_eq verb (codes "list") then alone Listing rest
     else if bytes_eq verb (codes "stat") then alone Stat rest
+    else if bytes_eq verb (codes "cbt") then after_cbt rest
+    else if bytes_eq verb (codes "changed") then after_twin Changed rest
     else None
 
 -- the most bytes that a line may have, without its newline

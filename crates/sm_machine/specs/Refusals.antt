@@ -7,11 +7,11 @@ use Rattle.sm_base.specs.Names.{is_base}
 use Rattle.sm_base.specs.Numbers.{div_up}
 use Rattle.sm_base.specs.declared.operations.Mode.TheVariants.{Rw}
 use Rattle.sm_base.specs.declared.refusals.Refusal.{Refusal}
-use Rattle.sm_base.specs.declared.refusals.Refusal.TheVariants.{ReservedName, UnknownDisk, NameTaken, InUse, NotAttached, ReadOnly, RawDisk, Tracked, OutOfRange, BadSize, Shrink, ChainTooLong, TooMany, SequenceSpent, NoSpace}
+use Rattle.sm_base.specs.declared.refusals.Refusal.TheVariants.{ReservedName, UnknownDisk, NameTaken, InUse, NotAttached, ReadOnly, RawDisk, Tracked, NotTracked, OutOfRange, BadSize, Shrink, ChainTooLong, TooMany, SequenceSpent, NoSpace}
 use Rattle.sm_machine.specs.declared.commands.Command.{Command}
-use Rattle.sm_machine.specs.declared.commands.Command.TheVariants.{Create, Delete, Attach, Detach, Snapshot, Clone, Resize, Label, Write, Fill, Read, Flush, Gc, List as Listing, Stat}
+use Rattle.sm_machine.specs.declared.commands.Command.TheVariants.{Create, Delete, Attach, Detach, Snapshot, Clone, Resize, Label, Write, Fill, Read, Flush, Gc, List as Listing, Stat, Track, Changed}
 use Rattle.common_laws.specs.Lists.{first_some, given}
-use Rattle.sm_log.specs.Logs.{Log, log_of}
+use Rattle.sm_log.specs.Logs.{Log, changed, log_of, log_sectors, piece_count}
 use Rattle.sm_machine.specs.Disks.{sector_bytes}
 use Rattle.sm_machine.specs.Shapes.{Shape, ImageRow, image_uuid, is_vhd, disk_image, disk_record, attached_as, is_ro, is_rw, chain, chain_limit, image_limit, read_limit, thin_in, thick_in, free}
 
@@ -32,6 +32,13 @@ named (Flush u) = Some u
 named Gc = None
 named Listing = None
 named Stat = None
+named (Track u on) = Some u
+named (Changed u n) = Some u
+
+-- a second disk that a command names
+abbrev pub also_named : Command → Option (List ℕ)
+also_named (Changed u n) = Some n
+also_named _ = None
 
 -- the new UUID of a command
 unfoldable pub new_uuid : Command → Option (List ℕ)
@@ -58,9 +65,9 @@ of_some test (Some x) = test x
 unfoldable pub is_reserved : Command → Bool
 is_reserved c = of_some (λ u. bytes_eq u nil || is_base u) (new_uuid c)
 
--- no disk has the UUID
+-- no disk has the UUID, or the second one that is named
 unfoldable pub is_unknown : Shape → Command → Bool
-is_unknown s c = of_some (λ u. is_none (disk_record u s)) (named c)
+is_unknown s c = of_some (λ u. is_none (disk_record u s)) (also_named c) || of_some (λ u. is_none (disk_record u s)) (named c)
 
 -- a disk or a hidden image has the new UUID
 unfoldable pub is_taken : Shape → Command → Bool
@@ -86,12 +93,13 @@ is_not_attached s _ = false
 abbrev pub is_snapshot : List ℕ → Shape → Bool
 is_snapshot u s = of_some (λ r. r.read_only) (disk_record u s)
 
--- write, fill: the disk is attached for reading alone; attach for writing, resize: the disk is a snapshot
+-- write, fill: the disk is attached for reading alone; attach for writing, resize, a beginning of tracking: the disk is a snapshot
 unfoldable pub is_read_only : Shape → Command → Bool
 is_read_only s (Write u sector bytes) = is_ro (attached_as u s)
 is_read_only s (Fill u sector count byte) = is_ro (attached_as u s)
 is_read_only s (Attach u Rw) = is_snapshot u s
 is_read_only s (Resize u size) = is_snapshot u s
+is_read_only s (Track u true) = is_snapshot u s
 is_read_only s _ = false
 
 -- resize: the disk's volume is raw
@@ -99,10 +107,25 @@ unfoldable pub is_raw_disk : Shape → Command → Bool
 is_raw_disk s (Resize u size) = of_some (λ i. not (is_vhd i.name)) (disk_image u s)
 is_raw_disk s _ = false
 
--- resize: the disk is tracked
+-- resize, a beginning of tracking: the disk is tracked
 unfoldable pub is_tracked : Shape → Command → Bool
 is_tracked s (Resize u size) = is_some (log_of u s.logs)
+is_tracked s (Track u true) = is_some (log_of u s.logs)
 is_tracked s _ = false
+
+abbrev pub with_image_of : (ImageRow → ℕ) → Option ImageRow → ℕ
+with_image_of f None = 0
+with_image_of f (Some i) = f i
+
+-- the number of pieces of a disk
+abbrev pub disk_pieces : List ℕ → Shape → ℕ
+disk_pieces u s = with_image_of (λ i. piece_count i.size) (disk_image u s)
+
+-- an end of tracking: the disk is not tracked; what changed between two disks: the logs do not lead from the second one back to the first
+unfoldable pub is_untracked : Shape → Command → Bool
+is_untracked s (Track u false) = is_none (log_of u s.logs)
+is_untracked s (Changed u n) = is_none (changed (disk_pieces u s) u n s.logs)
+is_untracked s _ = false
 
 -- so many sectors from one on are none, or not all within the disk
 abbrev pub is_outside : Shape → List ℕ → ℕ → ℕ → Bool
@@ -180,10 +203,6 @@ lacking s i = lacking_for s i.size i
 abbrev pub lacking_larger : Shape → List ℕ → ℕ → ImageRow → ℕ
 lacking_larger s u size i = elim (is_rw (attached_as u s)) [ true ↦ lacking_for s size i | false ↦ 0 ]
 
-abbrev pub with_image_of : (ImageRow → ℕ) → Option ImageRow → ℕ
-with_image_of f None = 0
-with_image_of f (Some i) = f i
-
 -- the extents that a new disk takes
 abbrev pub new_extents : Shape → Bool → ℕ → ℕ
 new_extents s true bytes = div_up bytes (sector_bytes * s.extent)
@@ -194,21 +213,27 @@ abbrev pub of_log : (Log → ℕ) → Option Log → ℕ
 of_log f None = 0
 of_log f (Some l) = f l
 
+-- the extents that the log of a disk takes
+abbrev pub log_room : Shape → List ℕ → ℕ
+log_room s u = div_up (log_sectors (disk_pieces u s)) s.extent
+
 -- the extents that a command takes for logs: a snapshot's log takes as many as its disk's has
 unfoldable pub log_need : Shape → Command → ℕ
 log_need s (Snapshot u twin) = of_log (λ l. l.extents) (log_of u s.logs)
+log_need s (Track u true) = log_room s u
 log_need s _ = 0
 
--- the extents that a command takes; those of a snapshot's log too
+-- the extents that a command takes; those of a log too
 unfoldable pub need : Shape → Command → ℕ
 need s (Create u size raw label) = new_extents s raw size
 need s (Attach u Rw) = with_image_of (lacking s) (disk_image u s)
 need s (Resize u size) = with_image_of (lacking_larger s u (rounded s false size)) (disk_image u s)
 need s (Snapshot u twin) = with_image_of (fork_need s u) (disk_image u s) + log_need s (Snapshot u twin)
 need s (Clone u twin) = with_image_of (fork_need s u) (disk_image u s)
+need s (Track u true) = log_need s (Track u true)
 need s _ = 0
 
--- create, snapshot, clone, attach for writing, resize of a disk attached for writing: more extents are needed than are free
+-- create, snapshot, clone, attach for writing, resize of a disk attached for writing, a beginning of tracking: more extents are needed than are free
 unfoldable pub lacks_space : Shape → Command → Bool
 lacks_space s c = nat_lt (free s) (need s c)
 
@@ -226,6 +251,7 @@ refusal s c = first_some (given (is_reserved c) ReservedName
     ∷ given (is_read_only s c) ReadOnly
     ∷ given (is_raw_disk s c) RawDisk
     ∷ given (is_tracked s c) Tracked
+    ∷ given (is_untracked s c) NotTracked
     ∷ given (is_out_of_range s c) OutOfRange
     ∷ given (is_bad_size s c) BadSize
     ∷ given (is_shrink s c) Shrink

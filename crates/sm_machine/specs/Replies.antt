@@ -1,6 +1,6 @@
 -- How a reply is printed (this project's format). A reply is one line: its parts are separated by one space, and it
 -- ends with a newline. Accepted lines begin with `ok`, refused ones with `no` and the refusal's name. Sizes are in
--- bytes, numbers are decimal, bytes are lower-case hexadecimal digits.
+-- bytes, numbers are decimal, bytes are lower-case hexadecimal digits, and what changed is base64.
 use Rattle.std.specs.Prelude.{ℕ, ◌/◌, ◌%◌, Bool, true, false, List, [], ◌∷◌, ◌++◌, map, length, codes, Option, Some, None}
 use Rattle.std.specs.List.{join_with_byte}
 use Rattle.std.specs.Fmt.{decimal}
@@ -12,7 +12,7 @@ use Rattle.sm_base.specs.declared.operations.Op.TheVariants as op
 use Rattle.sm_base.specs.declared.operations.Plan.{Plan}
 use Rattle.sm_base.specs.declared.operations.Plan.TheVariants as plan
 use Rattle.sm_base.specs.declared.refusals.Refusal.{Refusal}
-use Rattle.sm_base.specs.declared.refusals.Refusal.TheVariants.{BadLine, ReservedName, UnknownDisk, NameTaken, InUse, NotAttached, ReadOnly, RawDisk, Tracked, OutOfRange, BadSize, Shrink, ChainTooLong, TooMany, SequenceSpent, NoSpace, NoMemory, Differencing, BadFile, Cut}
+use Rattle.sm_base.specs.declared.refusals.Refusal.TheVariants.{BadLine, ReservedName, UnknownDisk, NameTaken, InUse, NotAttached, ReadOnly, RawDisk, Tracked, NotTracked, OutOfRange, BadSize, Shrink, ChainTooLong, TooMany, SequenceSpent, NoSpace, NoMemory, Differencing, BadFile, Cut}
 use Rattle.sm_machine.specs.Stats.{Stats}
 use Rattle.sm_machine.specs.declared.replies.DiskRow.{DiskRow}
 use Rattle.sm_machine.specs.declared.replies.StatRow.{StatRow}
@@ -107,6 +107,7 @@ refusal_parts NotAttached = codes "NotAttached" ∷ []
 refusal_parts ReadOnly = codes "ReadOnly" ∷ []
 refusal_parts RawDisk = codes "RawDisk" ∷ []
 refusal_parts Tracked = codes "Tracked" ∷ []
+refusal_parts NotTracked = codes "NotTracked" ∷ []
 refusal_parts OutOfRange = codes "OutOfRange" ∷ []
 refusal_parts BadSize = codes "BadSize" ∷ []
 refusal_parts Shrink = codes "Shrink" ∷ []
@@ -128,6 +129,7 @@ unfoldable pub reply_parts : Reply → List (List ℕ)
 reply_parts reply.Done = codes "ok" ∷ []
 reply_parts (reply.Size bytes) = codes "ok" ∷ decimal bytes ∷ []
 reply_parts (reply.Bytes bytes) = codes "ok" ∷ hex_text bytes ∷ []
+reply_parts (reply.Changed text) = codes "ok" ∷ text ∷ []
 reply_parts (reply.List rows) = codes "ok" ∷ decimal (length rows) ∷ map disk_text rows
 reply_parts (reply.Stat stats) = codes "ok" ∷ stat_parts stats
 reply_parts (reply.Gc step o) = codes "ok" ∷ codes "gc" ∷ plan_parts step o

@@ -5,7 +5,7 @@ use Rattle.std.specs.Prelude.{◌≡◌, ℕ, Bool, true, false, List, [], ◌�
 use Rattle.std.specs.List.{slice_get}
 use Rattle.sm_base.specs.declared.refusals.Refusal.TheVariants.{NoMemory}
 use Rattle.sm_machine.specs.declared.commands.Command.{Command}
-use Rattle.sm_machine.specs.declared.commands.Command.TheVariants.{Create, Delete, Attach, Detach, Snapshot, Clone, Resize, Label, Write, Fill, Flush}
+use Rattle.sm_machine.specs.declared.commands.Command.TheVariants.{Create, Delete, Attach, Detach, Snapshot, Clone, Resize, Label, Write, Fill, Flush, Track}
 use Rattle.sm_machine.specs.declared.replies.Reply.{Reply}
 use Rattle.sm_machine.specs.declared.replies.Reply.TheVariants as reply
 use Rattle.sm_machine.specs.Lines.{spelled}
@@ -42,6 +42,7 @@ takes_memory (Label u text) = false
 takes_memory (Write u sector bytes) = false
 takes_memory (Fill u sector count byte) = false
 takes_memory (Flush u) = false
+takes_memory (Track u on) = on
 takes_memory _ = true
 
 -- the turns of a script of which each line finds memory
@@ -66,6 +67,7 @@ is_settling (Clone u twin) = true
 is_settling (Resize u size) = true
 is_settling (Label u text) = true
 is_settling (Flush u) = true
+is_settling (Track u on) = true
 is_settling _ = false
 
 abbrev pub some_settling : Option Command → Bool

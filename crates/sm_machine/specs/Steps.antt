@@ -13,7 +13,7 @@ use Rattle.sm_machine.specs.Operations.{Op}
 use Rattle.sm_machine.specs.Operations as op
 use Rattle.sm_base.specs.declared.refusals.Refusal.{Refusal}
 use Rattle.sm_machine.specs.declared.commands.Command.{Command}
-use Rattle.sm_machine.specs.declared.commands.Command.TheVariants.{Create, Delete, Attach, Detach, Snapshot, Clone, Resize, Label, Write, Fill, Read, Flush, Gc, List as Listing, Stat}
+use Rattle.sm_machine.specs.declared.commands.Command.TheVariants.{Create, Delete, Attach, Detach, Snapshot, Clone, Resize, Label, Write, Fill, Read, Flush, Gc, List as Listing, Stat, Track, Changed}
 use Rattle.sm_machine.specs.declared.replies.DiskRow.{DiskRow}
 use Rattle.sm_machine.specs.declared.replies.StatRow.{StatRow}
 use Rattle.sm_machine.specs.declared.replies.Reply.{Reply}
@@ -23,7 +23,9 @@ use Rattle.common_laws.specs.Lists.{change, insert_by, numbers}
 use Rattle.sm_machine.specs.Operations.{dirtied, told}
 use Rattle.sm_machine.specs.Disks.{Disk, sector_bytes, uuid_before, filled, sectors_of_bytes, overwritten, bytes_at, is_disk, with_disk, on_disk}
 use Rattle.sm_machine.specs.Shapes.{Shape, ImageRow, DiskRecord, Attachment, image_uuid, risen, is_vhd, renamed, count_blocks, is_image_of, disk_image, attached_as, is_rw, refs, free, with_image, without_image}
-use Rattle.sm_machine.specs.Refusals.{refusal, rounded, new_extents, wanted, lacking, lacking_larger}
+use Rattle.sm_log.specs.Coded.{spelled_first}
+use Rattle.sm_log.specs.Logs.{changed}
+use Rattle.sm_machine.specs.Refusals.{refusal, disk_pieces, rounded, new_extents, wanted, lacking, lacking_larger}
 use Rattle.sm_machine.specs.Collector.{with_block, next_step, collected}
 use Rattle.sm_machine.specs.Commits.{commits, is_given_up}
 
@@ -152,6 +154,8 @@ shape_after s (Flush u) = s
 shape_after s Gc = collected (next_step s) s
 shape_after s Listing = s
 shape_after s Stat = s
+shape_after s (Track u on) = s
+shape_after s (Changed u n) = s
 
 -- the operation is over where the command gives it up
 abbrev pub given_up : Bool → Shape → Shape
@@ -191,6 +195,8 @@ disks_next disks s (Flush u) = disks
 disks_next disks s Gc = disks
 disks_next disks s Listing = disks
 disks_next disks s Stat = disks
+disks_next disks s (Track u on) = disks
+disks_next disks s (Changed u n) = disks
 
 -- ---- what an accepted command is answered
 
@@ -206,6 +212,11 @@ stats s = record { seq = s.sequence; free = free s; op = told s.op; rows = map (
 abbrev pub read_from : ℕ → ℕ → Option Disk → List ℕ
 read_from sector count None = []
 read_from sector count (Some d) = bytes_at sector count d.sectors
+
+-- the pieces of a disk with so many that changed, a bit for each, as text
+abbrev pub changed_text : ℕ → Option (List Bool) → List ℕ
+changed_text pieces None = []
+changed_text pieces (Some bits) = spelled_first pieces bits
 
 -- the reply to an accepted command
 unfoldable pub reply_to : List Disk → Shape → Command → Reply
@@ -224,6 +235,8 @@ reply_to disks s (Flush u) = reply.Done
 reply_to disks s Gc = reply.Gc (next_step s) (told s.op)
 reply_to disks s Listing = reply.List (map disk_row disks)
 reply_to disks s Stat = reply.Stat (stats s)
+reply_to disks s (Track u on) = reply.Done
+reply_to disks s (Changed u n) = reply.Changed (changed_text (disk_pieces u s) (changed (disk_pieces u s) u n s.logs))
 
 -- ---- the step
 

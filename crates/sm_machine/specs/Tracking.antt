@@ -1,24 +1,23 @@
 -- What happens to the logs of tracked disks, and with it the step of a line (this project's own). A log's volume is none of an image: its
 -- extents are among the others' of a shape. What a command does to the logs comes on top of its step.
-use Rattle.std.specs.Prelude.{◌≡◌, ◌≢◌, ℕ, ◌+◌, ◌-◌, ◌*◌, ◌/◌, ◌<◌, ◌≤◌, true, List, [], length, map, Option, Some, None}
-use Rattle.sm_base.specs.Numbers.{div_up}
+use Rattle.std.specs.Prelude.{◌≡◌, ◌≢◌, ℕ, ◌+◌, ◌-◌, ◌*◌, ◌/◌, ◌<◌, ◌≤◌, Bool, true, false, List, [], length, map, Option, Some, None}
 use Rattle.sm_base.specs.declared.refusals.Refusal.{Refusal}
 use Rattle.sm_base.specs.declared.refusals.Refusal.TheVariants.{BadLine}
 use Rattle.common_laws.specs.Lists.{In, Distinct, Sorted}
 use Rattle.sm_log.specs.Logs.{Log, piece_count, log_sectors, log_of, with_log, without_log, on_log, log_extents, new_log, touched, split}
 use Rattle.sm_machine.specs.declared.commands.Command.{Command}
-use Rattle.sm_machine.specs.declared.commands.Command.TheVariants.{Create, Delete, Attach, Detach, Snapshot, Clone, Resize, Label, Write, Fill, Read, Flush, Gc, List as Listing, Stat}
+use Rattle.sm_machine.specs.declared.commands.Command.TheVariants.{Create, Delete, Attach, Detach, Snapshot, Clone, Resize, Label, Write, Fill, Read, Flush, Gc, List as Listing, Stat, Track, Changed}
 use Rattle.sm_machine.specs.Disks.{sector_bytes}
 use Rattle.sm_machine.specs.Shapes.{Shape, ImageRow, disk_image, risen}
 use Rattle.sm_machine.specs.Lines.{spelled}
-use Rattle.sm_machine.specs.Refusals.{is_snapshot, of_log, refusal, with_image_of}
+use Rattle.sm_machine.specs.Refusals.{disk_pieces, is_snapshot, log_room, of_log, refusal}
 use Rattle.sm_machine.specs.Steps.{State, Outcome, accepted, refused}
 use Rattle.sm_machine.specs.WellFormed.{HasRecord, uuid_le}
 
 -- ---- what a command does to logs
 
 -- the logs after an accepted command: a write sets the bits of the pieces that it reaches, a deleted disk's log goes, and a snapshot
--- of a tracked disk has a log, with the sequence number before the command as its tag
+-- of a tracked disk has a log, with the sequence number before the command as its tag; tracking begins with a log without bits
 unfoldable pub logs_after : Shape → Command → List Log
 logs_after s (Create u size raw label) = s.logs
 logs_after s (Delete u) = without_log u s.logs
@@ -35,6 +34,9 @@ logs_after s (Flush u) = s.logs
 logs_after s Gc = s.logs
 logs_after s Listing = s.logs
 logs_after s Stat = s.logs
+logs_after s (Track u true) = with_log (new_log u (log_room s u) (disk_pieces u s)) s.logs
+logs_after s (Track u false) = without_log u s.logs
+logs_after s (Changed u n) = s.logs
 
 -- the commits that a command makes for logs: one where a log goes, two where one is made
 unfoldable pub log_commits : Shape → Command → ℕ
@@ -53,6 +55,14 @@ log_commits s (Flush u) = 0
 log_commits s Gc = 0
 log_commits s Listing = 0
 log_commits s Stat = 0
+log_commits s (Track u true) = 2
+log_commits s (Track u false) = 1
+log_commits s (Changed u n) = 0
+
+-- whether a command makes the log of a disk that has none
+unfoldable pub begins_log : Command → Bool
+begins_log (Track u on) = on
+begins_log _ = false
 
 -- ---- the shape with other logs
 
@@ -92,14 +102,6 @@ unfoldable pub step_line : State → List ℕ → Outcome
 step_line σ line = step_or_bad (spelled line) σ
 
 -- ---- tracking begins, and ends
-
--- the number of pieces of a disk
-abbrev pub disk_pieces : List ℕ → Shape → ℕ
-disk_pieces u s = with_image_of (λ i. piece_count i.size) (disk_image u s)
-
--- the extents that the log of a disk takes
-abbrev pub log_room : Shape → List ℕ → ℕ
-log_room s u = div_up (log_sectors (disk_pieces u s)) s.extent
 
 -- the shape once a disk is tracked
 abbrev pub begun : Shape → List ℕ → Shape

@@ -3,7 +3,7 @@ use sm_base::{Label, Mode};
 use std::marker::Model;
 use uuid::Uuid;
 
-/// Bytes of a disk, whole sectors. A contract sees the list of them.
+/// Bytes that are told: those of a disk, whole sectors, or of a text. A contract sees the list of them.
 #[derive(Drop)]
 pub struct Bytes {
     pub bytes: Vec<u8>,
@@ -108,4 +108,14 @@ pub enum Command {
     List,
     /// Tell the images and the room.
     Stat,
+    /// Begin to track which pieces of a disk are written to, or end it.
+    Track {
+        disk: Uuid,
+        on: bool,
+    },
+    /// Tell which pieces were written to between the snapshots of two disks.
+    Changed {
+        from: Uuid,
+        to: Uuid,
+    },
 }

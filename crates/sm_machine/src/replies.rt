@@ -73,6 +73,8 @@ pub enum Reply {
     List(DiskRows),
     /// The images and the room.
     Stat(StatRows),
+    /// The pieces that were written to, a bit for each, as text in base64.
+    Changed(Bytes),
     /// The collector's step, and the operation that it went on with.
     Gc(Plan, Op),
     /// Refused.
