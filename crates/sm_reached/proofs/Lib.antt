@@ -1,0 +1,11 @@
+pub mod BackLaws
+pub mod DescentLaws
+pub mod KnownLaws
+pub mod Opener
+pub mod ReachedLaws
+pub mod RunLaws
+pub mod SnapshotLaws
+pub mod SourceLaws
+pub mod StepLaws
+pub mod TagLaws
+pub mod WalkLaws
