@@ -1,7 +1,7 @@
--- What every repository keeps, whenever the device stops (this project's format): the checks of an opening pass; each
--- block that has a slot in a VHD image holds at least one sector; while the children of an image are being linked to
--- its parent, the parent holds, with equal bytes, each sector that the image holds. The last two are seen only by
--- reading all bitmaps and data, so no opening tests them.
+-- What every repository keeps, whenever the device stops (this project's format). The checks of an opening pass; that of logs
+-- stands in LogChecks. Each block that has a slot in a VHD image holds at least one sector. While the children of an image are
+-- being linked to its parent, the parent holds, with equal bytes, each sector that the image holds. The last two are seen only
+-- by reading all bitmaps and data, so no opening tests them.
 use Rattle.std.specs.Prelude.{◌≡◌, ℕ, ◌+◌, ◌*◌, ◌<◌, List, Some, None}
 use Rattle.std.specs.List.{slice_get}
 use Rattle.sm_base.specs.declared.names.Name.{Name}
@@ -34,7 +34,7 @@ pub record HoldsWell (c : Content) : Type 0 where
   pub holding : HasNoEmptySlot c
   pub linking : HasParentAlike c
 
--- all checks of an opening pass, and what no opening tests holds too
+-- all checks of an opening but that of logs pass, and what no opening tests holds too
 pub record IsKept (c : Content) : Type 0 where
   pub sound : first_fault c ≡ None
   pub holding : HasNoEmptySlot c

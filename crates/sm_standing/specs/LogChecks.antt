@@ -138,7 +138,7 @@ pub record HasLogsOf (was now : Content) : Type 0 where
   pub logs : (u : List ℕ) → log_at now u ≡ log_at was u
   pub sequence : was.table.sequence ≤ now.table.sequence
 
--- a content is kept, and the check of its logs passes
+-- all checks of an opening pass, that of logs too, and what no opening tests holds
 pub record IsKeptWithLogs (c : Content) : Type 0 where
   pub kept : IsKept c
   pub passes : log_fault c ≡ None

@@ -8,14 +8,16 @@
 //! sectors of 512 bytes, room in extents.
 //!
 //! The definitions are in `specs/`: `Contents`, `Entries` (journal entries and their stages), `Images` (an image, a turn, what
-//! is read), `Answering` (the same without a bound), `Standing` (the disks), `Outlines` (what the checks look at), `Checks`
-//! (the checks in their order), `LogChecks` (the last one, of logs), `Keeping` (kept), `Devices` (the same of a whole device), `Shapes` (the shape that a content
-//! spells), `Opened` (the commits that an opening makes, repair by repair, and the shape of what stands behind them), `Plain` and
-//! `PlainSound` (a repository in which nothing is under way), `Readings` (record sectors of two contents), `Changes` (an image
-//! that comes, goes, grows or moves), `Enlarging` (an image that is being enlarged), `Undone` (while an enlargement or a fork
-//! that was cut short is undone), `Unfolded` (a table without the entry of a copy or of a link), `Leaves` (while the folding of
-//! a leaf that was cut short is ended), `Worlds` (what a change of the area leaves), `Forks` and `Swaps` (a content at any
-//! moment of a fork, or of a swap, beside the one from before).
+//! is read), `Answering` (the same without a bound), `Standing` (the disks), `Ordered` (their order), `Logs` (the logs of tracked
+//! disks), `Outlines` (what the checks look at), `Checks` (the checks in their order), `LogChecks` (the last one, of logs), `Keeping`
+//! (kept, but for logs), `Devices` (the same of a whole device), `Shapes` (the shape that a content spells), `Opened` (the commits that
+//! an opening makes, repair by repair, and the shape of what stands behind them), `Dropped` (the logs of no use, which an opening
+//! removes before), `Plain` and `PlainSound` (a repository in which nothing is under way), `Readings` (record sectors of two
+//! contents), `Changes` (an image that comes, goes, grows or moves), `Enlarging` (an image that is being enlarged), `Undone` (while an
+//! enlargement or a fork that was cut short is undone), `Unfolded` (a table without the entry of a copy or of a link), `Leaves` (while
+//! the folding of a leaf that was cut short is ended), `Worlds` (what a change of the area leaves), `Volumes` (a volume that holds what
+//! another held), `Apart` and `Besides` (one content, or outline, beside another), `Forks` and `Swaps` (a content at any moment of a fork,
+//! or of a swap, beside the one from before).
 //!
 //! The laws are the contracts of functions that do nothing: of what is read through a chain (`chains`), of images in a
 //! content (`images`), of what a commit or a write leaves of each volume (`worlds`), of the list of disks (`listing`), of a
