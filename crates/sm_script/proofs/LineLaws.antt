@@ -45,9 +45,10 @@ spelled_words-write verb rest is = ap (λ v. spelled_words (v ∷ rest)) (sym is
 pub spelled_words-none : (verb : List ℕ) (rest : List (List ℕ)) → verb ≢ codes "write"
     → verb ≢ codes "create" → verb ≢ codes "delete" → verb ≢ codes "attach" → verb ≢ codes "detach" → verb ≢ codes "snapshot"
     → verb ≢ codes "clone" → verb ≢ codes "resize" → verb ≢ codes "label" → verb ≢ codes "fill" → verb ≢ codes "read"
-    → verb ≢ codes "flush" → verb ≢ codes "gc" → verb ≢ codes "list" → verb ≢ codes "stat" → None ≡ spelled_words (verb ∷ rest)
+    → verb ≢ codes "flush" → verb ≢ codes "gc" → verb ≢ codes "list" → verb ≢ codes "stat"
+    → verb ≢ codes "cbt" → verb ≢ codes "changed" → None ≡ spelled_words (verb ∷ rest)
 unfolding spelled_words
-spelled_words-none verb rest n1 n2 n3 n4 n5 n6 n7 n8 n9 n10 n11 n12 n13 n14 n15 =
+spelled_words-none verb rest n1 n2 n3 n4 n5 n6 n7 n8 n9 n10 n11 n12 n13 n14 n15 n16 n17 =
     let write = not_word verb (codes "write") n1 in
     let create = not_word verb (codes "create") n2 in
     let delete = not_word verb (codes "delete") n3 in
@@ -63,7 +64,9 @@ spelled_words-none verb rest n1 n2 n3 n4 n5 n6 n7 n8 n9 n10 n11 n12 n13 n14 n15 
     let gc = not_word verb (codes "gc") n13 in
     let list = not_word verb (codes "list") n14 in
     let stat = not_word verb (codes "stat") n15 in
-    rw (← create, ← delete, ← attach, ← detach, ← snapshot, ← copy, ← resize, ← label, ← write, ← fill, ← read, ← flush, ← gc, ← list, ← stat) refl
+    let cbt = not_word verb (codes "cbt") n16 in
+    let changed = not_word verb (codes "changed") n17 in
+    rw (← create, ← delete, ← attach, ← detach, ← snapshot, ← copy, ← resize, ← label, ← write, ← fill, ← read, ← flush, ← gc, ← list, ← stat, ← cbt, ← changed) refl
 
 -- what stands behind the first word is no longer than the line
 pub behind_within : (line verb more : List ℕ) → line ≡ verb ++ more → length line ≤ line_limit → length more ≤ line_limit

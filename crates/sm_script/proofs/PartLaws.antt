@@ -3,9 +3,9 @@ use Rattle.std.proofs.Common.{◌≡◌, ◌≢◌, ℕ, ◌<◌, Bool, true, fa
 use Rattle.std.specs.Prelude.{option_copied, is_some}
 use Rattle.sm_base.specs.declared.operations.Mode.{Mode}
 use Rattle.common_laws.specs.Lists.{◌>>=◌}
-use Rattle.sm_machine.specs.Lines.{after_attach, after_create, after_disk, after_fill, after_label, after_read, after_resize, after_twin, after_write, alone, byte_of, is_raw_of, label_of, mode_of, number_of, sectors_of, uuid_of}
+use Rattle.sm_machine.specs.Lines.{after_attach, after_cbt, after_create, after_disk, after_fill, after_label, after_read, after_resize, after_twin, after_write, alone, byte_of, is_on_of, is_raw_of, label_of, mode_of, number_of, sectors_of, uuid_of}
 use Rattle.sm_machine.specs.declared.commands.Command.{Command}
-use Rattle.sm_machine.specs.declared.commands.Command.TheVariants.{Create, Attach, Resize, Label, Write, Fill, Read}
+use Rattle.sm_machine.specs.declared.commands.Command.TheVariants.{Create, Attach, Resize, Label, Write, Fill, Read, Track}
 use Rattle.sm_script.specs.Cuts.{words_behind}
 use Rattle.sm_script.proofs.CutLaws.{words_some}
 
@@ -39,6 +39,13 @@ after_attach-other [] apart = refl
 after_attach-other (a ∷ []) apart = refl
 after_attach-other (a ∷ b ∷ []) apart = absurd (apart refl)
 after_attach-other (a ∷ b ∷ c ∷ ws) apart = refl
+
+pub after_cbt-other : (ws : List (List ℕ)) → length ws ≢ 2 → None ≡ after_cbt ws
+unfolding after_cbt
+after_cbt-other [] apart = refl
+after_cbt-other (a ∷ []) apart = refl
+after_cbt-other (a ∷ b ∷ []) apart = absurd (apart refl)
+after_cbt-other (a ∷ b ∷ c ∷ ws) apart = refl
 
 pub after_resize-other : (ws : List (List ℕ)) → length ws ≢ 2 → None ≡ after_resize ws
 unfolding after_resize
@@ -100,6 +107,11 @@ pub after_attach-is : (ws : List (List ℕ)) (a b : List ℕ) (o : Option (List 
     → (o >>= (λ u. p >>= (λ m. Some (Attach u m)))) ≡ after_attach ws
 unfolding after_attach
 after_attach-is ws a b o p words e_o e_p = rw (words, e_o, e_p) refl
+
+pub after_cbt-is : (ws : List (List ℕ)) (a b : List ℕ) (o : Option (List ℕ)) (p : Option Bool) → ws ≡ a ∷ b ∷ [] → o ≡ uuid_of a → p ≡ is_on_of b
+    → (o >>= (λ u. p >>= (λ on. Some (Track u on)))) ≡ after_cbt ws
+unfolding after_cbt
+after_cbt-is ws a b o p words e_o e_p = rw (words, e_o, e_p) refl
 
 pub after_resize-is : (ws : List (List ℕ)) (a b : List ℕ) (o : Option (List ℕ)) (p : Option ℕ) → ws ≡ a ∷ b ∷ [] → o ≡ uuid_of a → p ≡ number_of b
     → (o >>= (λ u. p >>= (λ n. Some (Resize u n)))) ≡ after_resize ws

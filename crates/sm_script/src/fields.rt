@@ -6,7 +6,7 @@ ghost use Rattle.std.specs.Prelude.{◌≡◌, ◌<◌, ◌≤◌, ◌/◌, ◌%
 ghost use Rattle.std.specs.Char.{is_ascii_digit};
 ghost use Rattle.std.specs.List.{list_all};
 ghost use Rattle.std.specs.Result.{result_ok};
-ghost use Rattle.sm_machine.specs.Lines.{byte_of, hex_bytes, is_number, is_raw_of, mode_of, number_of, sectors_of, uuid_of, line_limit};
+ghost use Rattle.sm_machine.specs.Lines.{byte_of, hex_bytes, is_number, is_on_of, is_raw_of, mode_of, number_of, sectors_of, uuid_of, line_limit};
 
 use crate::digits::decode_pairs;
 use sm_base::Mode;
@@ -74,6 +74,20 @@ pub fn mode_in(word: &[u8]) -> Option<Mode>
         Some(Mode::Ro)
     } else if word == b"rw".as_slice() {
         Some(Mode::Rw)
+    } else {
+        None
+    }
+}
+
+/// Whether tracking is to begin or to end.
+#[tactic(auto, unfolding(sm_machine::specs::Lines::is_on_of))]
+pub fn is_on_in(word: &[u8]) -> Option<bool>
+    ensures { result ≡ is_on_of word.now }
+{
+    if word == b"on".as_slice() {
+        Some(true)
+    } else if word == b"off".as_slice() {
+        Some(false)
     } else {
         None
     }

@@ -13,7 +13,8 @@
 //! What it costs: a line is cut in one pass over its bytes, which stops at a word too many, and each word is
 //! read once. The bytes of a `write` are decoded into room for those of any line, 32,256 bytes ([`Line::room`]);
 //! it goes into what is read, a [`Reading`], and comes back from it for the next line. So the room takes memory
-//! once, and reading a line takes none. Printing takes none, and writes a word of at most 128 bytes at a time.
+//! once, and reading a line takes none. Printing takes none, and writes a word of at most 128 bytes at a time, but
+//! the text of what changed as a whole.
 //!
 //! For other words than those of a script, as the program's own, there are [`number_in`] and [`uuid_in`], which
 //! read one, and [`Word`] and [`write_line`], which print a line of them; [`write_refusal_line`] prints one of a refusal.

@@ -6,7 +6,8 @@ ghost use Rattle.sm_script.specs.Cuts.{words_behind};
 
 use crate::cuts::first_word;
 use crate::parts::{
-    attach, copy, create, delete, detach, fill, flush, label, lone, read, resize, snapshot, write,
+    attach, changed, copy, create, delete, detach, fill, flush, label, lone, read, resize,
+    snapshot, track, write,
 };
 use crate::readings::Reading;
 use sm_base::NoMemory;
@@ -81,6 +82,10 @@ fn command(verb: &[u8], rest: Option<&[u8]>) -> Option<Command>
         lone(Command::List, rest)
     } else if verb == b"stat".as_slice() {
         lone(Command::Stat, rest)
+    } else if verb == b"cbt".as_slice() {
+        track(rest)
+    } else if verb == b"changed".as_slice() {
+        changed(rest)
     } else {
         None
     }

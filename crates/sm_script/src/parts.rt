@@ -1,12 +1,12 @@
 //! What stands behind a line's first word, read as the parts of a command.
 
 ghost use Rattle.std.specs.Prelude.{◌≡◌, ◌≤◌, length, option_copied};
-ghost use Rattle.sm_machine.specs.Lines.{after_attach, after_create, after_disk, after_fill, after_label, after_read, after_resize, after_twin, after_write, alone, line_limit};
-ghost use Rattle.sm_machine.specs.declared.commands.Command.TheVariants.{Clone, Delete, Detach, Flush, Snapshot};
+ghost use Rattle.sm_machine.specs.Lines.{after_attach, after_cbt, after_create, after_disk, after_fill, after_label, after_read, after_resize, after_twin, after_write, alone, line_limit};
+ghost use Rattle.sm_machine.specs.declared.commands.Command.TheVariants.{Changed, Clone, Delete, Detach, Flush, Snapshot};
 ghost use Rattle.sm_script.specs.Cuts.{behind, words_behind};
 
 use crate::cuts::{four, one, three, two};
-use crate::fields::{byte_in, is_raw_in, mode_in, number_in, sectors_in, uuid_in};
+use crate::fields::{byte_in, is_on_in, is_raw_in, mode_in, number_in, sectors_in, uuid_in};
 use crate::readings::Reading;
 use sm_base::Label;
 use sm_machine::{Command, LineBytes};
@@ -94,6 +94,26 @@ pub fn label(rest: Option<&[u8]>) -> Option<Command>
     let disk = uuid_in(disk)?;
     let text = Label::of(text)?;
     Some(Command::Label { disk, text })
+}
+
+/// A disk, and whether it is to be tracked.
+pub fn track(rest: Option<&[u8]>) -> Option<Command>
+    ensures { result ≡ after_cbt (words_behind (option_copied rest.entry)) }
+{
+    let (disk, word) = two(rest)?;
+    let disk = uuid_in(disk)?;
+    let on = is_on_in(word)?;
+    Some(Command::Track { disk, on })
+}
+
+/// The earlier of two disks, and the later one.
+pub fn changed(rest: Option<&[u8]>) -> Option<Command>
+    ensures { result ≡ after_twin Changed (words_behind (option_copied rest.entry)) }
+{
+    let (from, to) = two(rest)?;
+    let from = uuid_in(from)?;
+    let to = uuid_in(to)?;
+    Some(Command::Changed { from, to })
 }
 
 /// A disk, a sector, a number of sectors, and a byte.

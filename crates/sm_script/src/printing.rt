@@ -62,6 +62,7 @@ fn write_parts<K: Sink>(sink: &mut K, reply: &Reply) -> Result<(), Failed>
         Reply::Bytes(bytes) => write_bytes(sink, bytes),
         Reply::List(rows) => write_list(sink, rows),
         Reply::Stat(rows) => write_stat(sink, rows),
+        Reply::Changed(text) => write_changed(sink, text),
         Reply::Gc(plan, op) => write_plan(sink, plan, op),
         Reply::No(refusal) => write_refusal(sink, b"no", refusal),
     }
@@ -74,4 +75,13 @@ fn write_bytes<K: Sink>(sink: &mut K, bytes: &Bytes) -> Result<(), Failed>
 {
     write_all(sink, b"ok ")?;
     write_hex(sink, &bytes.bytes)
+}
+
+// Writes `ok` and a text as it is.
+fn write_changed<K: Sink>(sink: &mut K, text: &Bytes) -> Result<(), Failed>
+    ensures { Writes (by_spaces (reply_parts (reply.Changed text.now)))
+        (K.content sink.old) (K.content sink.new) (K.faults sink.old) (K.faults sink.new) result }
+{
+    write_all(sink, b"ok ")?;
+    write_all(sink, &text.bytes)
 }

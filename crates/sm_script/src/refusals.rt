@@ -43,6 +43,7 @@ pub(crate) fn write_refusal<K: Sink>(
         Refusal::ReadOnly => write_named(sink, first, b"ReadOnly", &[]),
         Refusal::RawDisk => write_named(sink, first, b"RawDisk", &[]),
         Refusal::Tracked => write_named(sink, first, b"Tracked", &[]),
+        Refusal::NotTracked => write_named(sink, first, b"NotTracked", &[]),
         Refusal::OutOfRange => write_named(sink, first, b"OutOfRange", &[]),
         Refusal::BadSize => write_named(sink, first, b"BadSize", &[]),
         Refusal::Shrink => write_named(sink, first, b"Shrink", &[]),

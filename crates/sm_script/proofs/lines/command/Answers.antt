@@ -89,8 +89,20 @@ returns-then-eq-14 c = λ _.
     let verb = same_word c.args.verb.now (codes "stat") c.as_slice-else-eq-13.result.now c.if-eq-14.ensures c.as_slice-else-eq-13.ensures in
     c.lone-then-eq-14.ensures ∙ ap (λ v. spelled_words (v ∷ words_behind (option_copied c.args.rest))) (sym verb)
 
-pub returns-else-eq-14 : goal.returns-else-eq-14
-returns-else-eq-14 c = λ write.
+pub returns-then-eq-15 : goal.returns-then-eq-15
+unfolding spelled_words
+returns-then-eq-15 c = λ _.
+    let verb = same_word c.args.verb.now (codes "cbt") c.as_slice-else-eq-14.result.now c.if-eq-15.ensures c.as_slice-else-eq-14.ensures in
+    c.track.ensures ∙ ap (λ v. spelled_words (v ∷ words_behind (option_copied c.args.rest))) (sym verb)
+
+pub returns-then-eq-16 : goal.returns-then-eq-16
+unfolding spelled_words
+returns-then-eq-16 c = λ _.
+    let verb = same_word c.args.verb.now (codes "changed") c.as_slice-else-eq-15.result.now c.if-eq-16.ensures c.as_slice-else-eq-15.ensures in
+    c.changed.ensures ∙ ap (λ v. spelled_words (v ∷ words_behind (option_copied c.args.rest))) (sym verb)
+
+pub returns-else-eq-16 : goal.returns-else-eq-16
+returns-else-eq-16 c = λ write.
     let verb = c.args.verb.now in
     spelled_words-none verb (words_behind (option_copied c.args.rest)) write
     (other_word verb (codes "create") _ c.if-eq.ensures c.as_slice.ensures)
@@ -107,3 +119,5 @@ returns-else-eq-14 c = λ write.
     (other_word verb (codes "gc") _ c.if-eq-12.ensures c.as_slice-else-eq-11.ensures)
     (other_word verb (codes "list") _ c.if-eq-13.ensures c.as_slice-else-eq-12.ensures)
     (other_word verb (codes "stat") _ c.if-eq-14.ensures c.as_slice-else-eq-13.ensures)
+    (other_word verb (codes "cbt") _ c.if-eq-15.ensures c.as_slice-else-eq-14.ensures)
+    (other_word verb (codes "changed") _ c.if-eq-16.ensures c.as_slice-else-eq-15.ensures)

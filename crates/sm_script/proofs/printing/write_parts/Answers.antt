@@ -24,6 +24,9 @@ returns-in-List g c = Writes-same (ap (λ r. by_spaces (reply_parts r)) (sym c.i
 pub returns-in-Stat : goal.returns-in-Stat
 returns-in-Stat g c = Writes-same (ap (λ r. by_spaces (reply_parts r)) (sym c.in-Stat.is)) c.write_stat.ensures
 
+pub returns-in-Changed : goal.returns-in-Changed
+returns-in-Changed g c = Writes-same (ap (λ r. by_spaces (reply_parts r)) (sym c.in-Changed.is)) c.write_changed.ensures
+
 pub returns-in-Gc : goal.returns-in-Gc
 returns-in-Gc g c = Writes-same (ap (λ r. by_spaces (reply_parts r)) (sym c.in-Gc.is)) c.write_plan.ensures
 

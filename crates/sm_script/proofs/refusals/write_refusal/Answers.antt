@@ -39,6 +39,10 @@ pub returns-in-Tracked : goal.returns-in-Tracked
 unfolding refusal_parts
 returns-in-Tracked g c = Writes-same (ap (λ r. by_spaces (c.args.first.now ∷ refusal_parts r)) (sym c.in-Tracked.is)) c.write_named-in-Tracked.ensures
 
+pub returns-in-NotTracked : goal.returns-in-NotTracked
+unfolding refusal_parts
+returns-in-NotTracked g c = Writes-same (ap (λ r. by_spaces (c.args.first.now ∷ refusal_parts r)) (sym c.in-NotTracked.is)) c.write_named-in-NotTracked.ensures
+
 pub returns-in-OutOfRange : goal.returns-in-OutOfRange
 unfolding refusal_parts
 returns-in-OutOfRange g c = Writes-same (ap (λ r. by_spaces (c.args.first.now ∷ refusal_parts r)) (sym c.in-OutOfRange.is)) c.write_named-in-OutOfRange.ensures
