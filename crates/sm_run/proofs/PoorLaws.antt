@@ -3,12 +3,12 @@ use Rattle.std.proofs.Common.{◌≡◌, Bool, true, false, List, ◌∷◌, len
 use Rattle.std.proofs.lemmas.Bool.{true≢false}
 use Rattle.std.proofs.lemmas.Option.{none-some, same_Some}
 use Rattle.sm_base.specs.declared.refusals.Refusal.{Refusal}
-use Rattle.sm_base.specs.declared.refusals.Refusal.TheVariants.{BadSize, ChainTooLong, InUse, NameTaken, NoMemory, NoSpace, NotAttached, OutOfRange, RawDisk, ReadOnly, ReservedName, SequenceSpent, Shrink, TooMany, Tracked, UnknownDisk}
+use Rattle.sm_base.specs.declared.refusals.Refusal.TheVariants.{BadSize, ChainTooLong, InUse, NameTaken, NoMemory, NoSpace, NotAttached, NotTracked, OutOfRange, RawDisk, ReadOnly, ReservedName, SequenceSpent, Shrink, TooMany, Tracked, UnknownDisk}
 use Rattle.common_laws.specs.Lists.{first_some, given}
 use Rattle.sm_machine.specs.declared.commands.Command.{Command}
 use Rattle.sm_machine.specs.declared.replies.Reply.{Reply}
 use Rattle.sm_machine.specs.declared.replies.Reply.TheVariants.{No}
-use Rattle.sm_machine.specs.Refusals.{fork_depth, images_needed, is_bad_size, is_deep, is_in_use, is_not_attached, is_out_of_range, is_raw_disk, is_read_only, is_reserved, is_shrink, is_spent, is_taken, is_too_many, is_tracked, is_unknown, lacks_space, need, refusal}
+use Rattle.sm_machine.specs.Refusals.{fork_depth, images_needed, is_bad_size, is_deep, is_in_use, is_not_attached, is_out_of_range, is_raw_disk, is_read_only, is_reserved, is_shrink, is_spent, is_taken, is_too_many, is_tracked, is_untracked, is_unknown, lacks_space, need, refusal}
 use Rattle.sm_machine.specs.Shapes.{Shape, free}
 use Rattle.sm_run.specs.Runs.{may_want_memory}
 use Rattle.sm_run.specs.declared.steps.StepFault.{StepFault}
@@ -34,6 +34,7 @@ never_for_memory σ c =
     (past (is_read_only σ c) ReadOnly _ refl
     (past (is_raw_disk σ c) RawDisk _ refl
     (past (is_tracked σ c) Tracked _ refl
+    (past (is_untracked σ c) NotTracked _ refl
     (past (is_out_of_range σ c) OutOfRange _ refl
     (past (is_bad_size σ c) BadSize _ refl
     (past (is_shrink σ c) Shrink _ refl
@@ -41,7 +42,7 @@ never_for_memory σ c =
     (past (is_too_many σ c) (TooMany (length σ.images) (images_needed c)) _ refl
     (past (is_spent σ c) SequenceSpent _ refl
     (past (lacks_space σ c) (NoSpace (need σ c) (free σ)) _ refl
-    (λ e. none-some NoMemory e)))))))))))))))
+    (λ e. none-some NoMemory e))))))))))))))))
 
 -- a step that is not broken answers a command's first cause, so one that wants memory had none
 pub poor-spared : (σ : Shape) (c : Command) (broken : Bool) (result : Result Reply StepFault) → (broken ≡ true → result ≡ Err Broken) → (broken ≡ false → (x : Refusal) → refusal σ c ≡ Some x → result ≡ Ok (No x))

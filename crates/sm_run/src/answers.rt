@@ -27,6 +27,8 @@ fn step<M: Steps>(
         → (whole : List ℕ) → option_copied command.entry ≡ spelled whole
         → HasStepped (M.state machine.old) (M.state machine.new) whole result
         (M.leaves machine.old) (M.leaves machine.new) (M.ready machine.new) (M.kept machine.new) }
+    ensures ready { M.told → M.ready machine.old → OnOk result (M.ready machine.new) }
+    ensures truthful { M.told → M.ready machine.old → M.telling machine.old → M.truthful machine.new × OnOk result (M.telling machine.new) }
     ensures site { M.site machine.new ≡ M.site machine.old }
     ensures beside { M.told → Keeps (M.beside machine.old) (M.beside machine.new) }
     ensures counts { M.faults machine.old ≤ M.faults machine.new }
@@ -51,6 +53,8 @@ pub fn take_step<M: Steps>(
         → (whole : List ℕ) → line.old ≡ front_of whole
         → HasStepped (M.state machine.old) (M.state machine.new) whole result
         (M.leaves machine.old) (M.leaves machine.new) (M.ready machine.new) (M.kept machine.new) }
+    ensures ready { M.told → M.ready machine.old → OnOk result (M.ready machine.new) }
+    ensures truthful { M.told → M.ready machine.old → M.telling machine.old → M.truthful machine.new × OnOk result (M.telling machine.new) }
     ensures site { M.site machine.new ≡ M.site machine.old }
     ensures beside { M.told → Keeps (M.beside machine.old) (M.beside machine.new) }
     ensures counts { M.faults machine.old ≤ M.faults machine.new }
@@ -79,6 +83,8 @@ pub fn answer<M: Steps, K: Sink>(
         → HasAnswered (M.state machine.old) (M.state machine.new) whole result (K.content sink.old) (K.content sink.new)
         (M.leaves machine.old) (M.leaves machine.new) (M.ready machine.new) (M.kept machine.new) }
     ensures faults { IfErr result (λ fault. (fault ≡ Device) ⊎ (fault ≡ SinkFault)) }
+    ensures ready { M.told → M.ready machine.old → OnOk result (M.ready machine.new) }
+    ensures truthful { M.told → M.ready machine.old → M.telling machine.old → M.truthful machine.new × OnOk result (M.telling machine.new) }
     ensures site { M.site machine.new ≡ M.site machine.old }
     ensures beside { M.told → Keeps (M.beside machine.old) (M.beside machine.new) }
     ensures counts { M.faults machine.old ≤ M.faults machine.new }

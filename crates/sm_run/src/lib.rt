@@ -21,6 +21,8 @@
 //! stop is a device that fails from some call on, so this covers each moment of a run. The laws by which one step
 //! makes what a stop may show grow stand by themselves: [`law_during`], [`law_after`], [`law_settled`].
 //!
+//! **What logs tell.** Where what the logs of tracked disks tell was true as a run began, whatever a stop leaves is truthful at every return (`truthful`).
+//!
 //! **Costs.** One [`LineBuffer`], of 65,537 bytes for a line and 32,256 for the bytes that it may spell, which the caller
 //! takes before all else and which is used again for each line, so a run never ends for want of it; no other memory but
 //! that of the steps. The source is read in pieces that end at a newline, since a longer piece would take lines from it

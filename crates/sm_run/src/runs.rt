@@ -29,7 +29,8 @@ pub enum RunFault {
 }
 
 /// Takes one step for each line of the source, and sends its whole reply before the next byte is read. Each line is
-/// read into the buffer, whatever stood there; no other memory is taken here but that of the steps.
+/// read into the buffer, whatever stood there; no other memory is taken here but that of the steps. Where what the logs of tracked disks tell was
+/// true as the run began, whatever a stop leaves is truthful at its return.
 pub fn run<M: Steps, S: Source, K: Sink>(
     alloc: Global,
     machine: &mut M,
@@ -42,6 +43,7 @@ pub fn run<M: Steps, S: Source, K: Sink>(
         → HasRun (M.state machine.old) (M.state machine.new) result
         (S.content source.old) (S.content source.new) (K.content sink.old) (K.content sink.new)
         (M.leaves machine.new) (M.ready machine.new) (M.kept machine.new) }
+    ensures truthful { M.told → M.ready machine.old → M.telling machine.old → M.truthful machine.new }
     ensures device { M.broken machine.old ≡ false → result ≡ Err fault.Device
         → Rose (M.faults machine.old) (M.faults machine.new) }
     ensures source { result ≡ Err fault.Source → Rose (S.faults source.old) (S.faults source.new) }

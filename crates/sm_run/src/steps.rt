@@ -57,6 +57,12 @@ pub trait Steps {
     /// The disks that a stop may leave.
     ghost leaves: { Self → List Disk → Type 0 };
 
+    /// Between two steps: what the logs of tracked disks tell is true of all disks that a stop may leave, whichever stop leaves each of them.
+    ghost telling: { Self → Type 0 };
+
+    /// Whatever a stop leaves now is truthful: its logs tell the truth of its disks.
+    ghost truthful: { Self → Type 0 };
+
     /// A step answered `Device`.
     ghost broken: { Self → Bool };
 
@@ -72,7 +78,8 @@ pub trait Steps {
     /// alone: both by what is in memory, whatever the device holds. A refused command makes no write and no sync; only a
     /// command whose step takes memory is answered with want of it, and one of the collector only where it begins to fold an
     /// image. `Device` comes only where a call of the device failed, and any other answer only where none did. At `Broken`
-    /// nothing is done, and no step touches what stands beside the machine's store.
+    /// nothing is done, and no step touches what stands beside the machine's store. Where what the logs tell was true, whatever a stop
+    /// leaves is truthful at every return, and where there is a reply what they tell is true again.
     fn step(&mut self, alloc: Global, command: &Command) -> Result<Reply, StepFault>
         ensures site { site self.new ≡ site self.old }
         ensures counts { faults self.old ≤ faults self.new }
@@ -91,6 +98,7 @@ pub trait Steps {
         ensures spared { IfOk result (λ r. r ≡ No NoMemory → may_want_memory (shape self.old) command.now ≡ true) }
         ensures ready { told → ready self.old → OnOk result (ready self.new) }
         ensures kept { told → ready self.old → kept self.new }
+        ensures truthful { told → ready self.old → telling self.old → truthful self.new × OnOk result (telling self.new) }
         ensures refused { IfOk result (λ r. is_accepted r ≡ false → (ds : List Disk) → leaves self.new ds → leaves self.old ds) }
         ensures crash { told → ready self.old → (ds : List Disk) → leaves self.new ds
             → IsBetween (leaves self.old) (state self.old).disks ((tracked_step (state self.old) command.now).after).disks ds }
@@ -101,4 +109,7 @@ pub trait Steps {
 
     /// The machine's shape is the one in memory.
     ghost is_shape: { (s : Self) → (state s).shape ≡ shape s };
+
+    /// Where what the logs tell is true between two steps, whatever a stop leaves is truthful.
+    ghost tells_now: { (s : Self) → told → ready s → telling s → truthful s };
 }

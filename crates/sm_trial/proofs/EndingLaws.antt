@@ -9,7 +9,7 @@ use Rattle.sm_machine.specs.declared.commands.Command.TheVariants.{List as Listi
 use Rattle.sm_machine.specs.declared.replies.DiskRow.{DiskRow}
 use Rattle.sm_machine.specs.declared.replies.Reply.{Reply}
 use Rattle.sm_machine.specs.declared.replies.Reply.TheVariants as reply
-use Rattle.sm_machine.specs.Refusals.{refusal, is_reserved, is_unknown, is_taken, is_in_use, is_not_attached, is_read_only, is_raw_disk, is_tracked, is_out_of_range, is_bad_size, is_shrink, is_deep, is_too_many, is_spent, lacks_space, need, named, new_uuid, forked}
+use Rattle.sm_machine.specs.Refusals.{refusal, is_reserved, is_unknown, is_taken, is_in_use, is_not_attached, is_read_only, is_raw_disk, is_tracked, is_untracked, is_out_of_range, is_bad_size, is_shrink, is_deep, is_too_many, is_spent, lacks_space, need, named, new_uuid, forked}
 use Rattle.sm_machine.specs.Shapes.{Shape, free, image_extents}
 use Rattle.sm_machine.specs.Stats.{Stats}
 use Rattle.sm_machine.specs.Steps.{State, Outcome, accepted, disk_row, reply_to, shape_after, stat_row, stats}
@@ -18,11 +18,11 @@ use Rattle.sm_machine.specs.Commits.{is_given_up, gives_up}
 use Rattle.sm_machine.specs.Steps.{shape_next}
 
 never_list : (s : Shape) → refusal s Listing ≡ None
-unfolding refusal is_reserved is_unknown is_taken is_in_use is_not_attached is_read_only is_raw_disk is_tracked is_out_of_range is_bad_size is_shrink is_deep is_too_many is_spent lacks_space need named new_uuid forked
+unfolding refusal is_reserved is_unknown is_taken is_in_use is_not_attached is_read_only is_raw_disk is_tracked is_untracked is_out_of_range is_bad_size is_shrink is_deep is_too_many is_spent lacks_space need named new_uuid forked
 never_list s = ap (λ b. first_some (given b (NoSpace 0 (free s)) ∷ [])) (le-ltb (free s) 0 (omega arith))
 
 never_stat : (s : Shape) → refusal s Stat ≡ None
-unfolding refusal is_reserved is_unknown is_taken is_in_use is_not_attached is_read_only is_raw_disk is_tracked is_out_of_range is_bad_size is_shrink is_deep is_too_many is_spent lacks_space need named new_uuid forked
+unfolding refusal is_reserved is_unknown is_taken is_in_use is_not_attached is_read_only is_raw_disk is_tracked is_untracked is_out_of_range is_bad_size is_shrink is_deep is_too_many is_spent lacks_space need named new_uuid forked
 never_stat s = ap (λ b. first_some (given b (NoSpace 0 (free s)) ∷ [])) (le-ltb (free s) 0 (omega arith))
 
 list_is : (σ : State) → tracked_step σ Listing ≡ with_tracked σ.shape Listing (accepted σ Listing)

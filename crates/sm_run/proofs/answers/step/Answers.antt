@@ -20,3 +20,6 @@ pub returns-in-None-clause-stepped : goal.returns-in-None-clause-stepped
 returns-in-None-clause-stepped g c = λ told ready kept faces whole spells.
     stepped-refused (g.M.Steps.state c.args.machine.now) _ whole false BadLine _ (g.M.Steps.leaves c.args.machine.now) (g.M.Steps.leaves c.args.machine.now) _ _ (spared-ample (g.M.Steps.state c.args.machine.now) whole) (taken-none _ whole (sym spells ∙ ap option_copied c.in-None.is))
     refl refl ready kept faces (λ ds h. h)
+
+pub returns-in-None-clause-truthful : goal.returns-in-None-clause-truthful
+returns-in-None-clause-truthful g c = λ told ready telling. (g.met.M.Steps.tells_now c.args.machine.now told ready telling, telling)

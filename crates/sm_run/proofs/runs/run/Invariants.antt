@@ -10,6 +10,8 @@ invariant-lines g l = record {
       → BeginsSettled (g.M.Steps.state l.fn.machine) (g.M.Steps.leaves l.fn.machine)
       → SoFar (g.M.Steps.state l.fn.machine) (g.M.Steps.state l.machine) (g.S.Source.content l.fn.source) (g.S.Source.content l.source)
       (g.K.Sink.content l.fn.sink) (g.K.Sink.content l.sink) l.room (g.M.Steps.leaves l.machine) (g.M.Steps.ready l.machine) (g.M.Steps.kept l.machine);
+  ready : g.M.Steps.told → g.M.Steps.ready l.fn.machine → g.M.Steps.ready l.machine;
+  telling : g.M.Steps.told → g.M.Steps.ready l.fn.machine → g.M.Steps.telling l.fn.machine → g.M.Steps.telling l.machine;
   going_on : g.M.Steps.broken l.fn.machine ≡ false → g.M.Steps.broken l.machine ≡ false;
   site : g.M.Steps.site l.machine ≡ g.M.Steps.site l.fn.machine;
   beside : g.M.Steps.told → Keeps (g.M.Steps.beside l.fn.machine) (g.M.Steps.beside l.machine);
