@@ -14,12 +14,12 @@ use Rattle.sm_base.proofs.NumberLemmas.{blocks-le, div_up-le, image_fits}
 use Rattle.vg_meta.specs.Tables.{VolumeTable}
 use Rattle.vg_volumes.specs.Sites.{Site}
 use Rattle.std.specs.List.{find}
-use Rattle.sm_log.specs.Logs.{Log, is_log_of, log_extents}
-use Rattle.sm_machine.specs.Refusals.{fork_need, is_bad, is_bad_size, log_need, of_log, lacking, lacking_larger, need, new_extents, rounded, wanted, with_image_of}
+use Rattle.sm_log.specs.Logs.{Log, is_log_of, log_extents, piece_count}
+use Rattle.sm_machine.specs.Refusals.{disk_pieces, log_room, fork_need, is_bad, is_bad_size, log_need, of_log, lacking, lacking_larger, need, new_extents, rounded, wanted, with_image_of}
 use Rattle.sm_machine.specs.Shapes.{ImageRow, Shape, attached_as, disk_image, is_image_of, is_rw, is_vhd, thick_in, thin_in}
 use Rattle.sm_machine.specs.WellFormed.{IsWellFormed}
 use Rattle.sm_machine.specs.declared.commands.Command.{Command}
-use Rattle.sm_machine.specs.declared.commands.Command.TheVariants.{Create, Attach, Resize, Snapshot, Clone}
+use Rattle.sm_machine.specs.declared.commands.Command.TheVariants.{Create, Attach, Resize, Snapshot, Clone, Track}
 use Rattle.sm_ready.specs.Known.{Known, shape_in}
 use Rattle.sm_ready.specs.Orderly.{IsOrderly}
 
@@ -87,6 +87,21 @@ module _ (σ : Shape) (w : IsWellFormed σ) where
       by true = omega (arith, thick_row i at, few_thin)
       by false = omega (arith, few_thin)
 
+  few_pieces : (u : List ℕ) → disk_pieces u σ < 2 ^ 26
+  few_pieces u = few_of (λ i. piece_count i.size) u (2 ^ 26) (omega arith) (λ i at.
+      let whole = (w.images i at).whole in
+      let size : i.size ≤ σ.entries * σ.block = subst (λ k. k ≤ σ.entries * σ.block) (sym whole.1) (mul-le whole.0 σ.block σ.entries σ.block whole.3 (omega arith)) in
+      let most : σ.entries * σ.block ≤ 1044480 * 4096 = mul-le σ.entries σ.block 1044480 4096 w.geometry.entries_most w.geometry.block_most in
+      let pieces : piece_count i.size ≤ 2 ^ 25 = div_up-le i.size 128 (2 ^ 25) (omega arith) (omega (arith, size, most)) in
+      omega (arith, pieces))
+
+  few_room : (u : List ℕ) → log_room σ u < 2 ^ 32
+  few_room u =
+      let n : ℕ = div_up (disk_pieces u σ) 4096 in
+      let bits : n ≤ 2 ^ 14 = div_up-le (disk_pieces u σ) 4096 (2 ^ 14) (omega arith) (omega (arith, few_pieces u)) in
+      let room : log_room σ u ≤ 2 ^ 15 = div_up-le (1 + n) σ.extent (2 ^ 15) (omega (arith, w.geometry.extent_least)) (omega (arith, bits, w.geometry.extent_least)) in
+      omega (arith, room)
+
   few_raw : (size : ℕ) → σ.extents ≤ extent_limit → ((size == 0) || nat_lt (σ.entries * σ.block) (rounded σ true size) || nat_lt (σ.extents * σ.extent) (rounded σ true size)) ≡ false → new_extents σ true size < 2 ^ 32
   unfolding rounded
   few_raw size most good =
@@ -110,6 +125,7 @@ module _ (σ : Shape) (w : IsWellFormed σ) where
   few_need (Clone u twin) most logs good =
       let fork : with_image_of (fork_need σ u) (disk_image u σ) < 2 ^ 29 = few_of (fork_need σ u) u (2 ^ 29) (omega arith) (few_fork u) in
       omega (arith, fork)
+  few_need (Track u true) most logs good = few_room u
   few_need _ most logs good = omega arith
 
 -- the extents that a command takes are below 2^32

@@ -4,7 +4,7 @@ use Rattle.std.specs.Prelude.{is_none, is_some}
 use Rattle.std.proofs.Math.Logic.{∥∥₁_elim}
 use Rattle.std.proofs.Props.{props}
 use Rattle.std.specs.Str.{bytes_eq}
-use Rattle.std.proofs.lemmas.Bool.{true≢false}
+use Rattle.std.proofs.lemmas.Bool.{or_parts, true≢false}
 use Rattle.sm_base.specs.declared.names.Name.{Name}
 use Rattle.sm_base.specs.declared.names.Name.TheVariants.{Vhd, Raw}
 use Rattle.common_laws.specs.Lists.{In}
@@ -16,7 +16,7 @@ use Rattle.vhd_chain.specs.Trees.{row_name, tree_row}
 use Rattle.vhd_chain.specs.declared.rows.TreeRow.{TreeRow}
 use Rattle.sm_machine.specs.declared.commands.Command.{Command}
 use Rattle.sm_machine.specs.Commits.{commits, is_given_up, own_commits, one_if}
-use Rattle.sm_machine.specs.Refusals.{named, refusal, is_unknown, of_some}
+use Rattle.sm_machine.specs.Refusals.{also_named, named, refusal, is_unknown, of_some}
 use Rattle.sm_machine.specs.Shapes.{DiskRecord, ImageRow, Shape, disk_image, disk_record, image_uuid, is_image_of, risen}
 use Rattle.sm_machine.specs.Steps.{State, accepted, given_up, shape_after, shape_next, step, unless_refused}
 use Rattle.sm_machine.specs.WellFormed.{HasRecord, IsWellFormed}
@@ -39,9 +39,16 @@ pub record IsOwn (m : Known) (u : List ℕ) : Type 0 where
   pub shown : row.hidden ≡ false
   pub uuid : image_uuid (row_name row) ≡ u
 
+-- the first disk that is named by a command that is not refused has a record
+pub named_known : (σ : Shape) (c : Command) (u : List ℕ) → named c ≡ Some u → is_unknown σ c ≡ false → is_none (disk_record u σ) ≡ false
+unfolding is_unknown
+named_known σ c u is known =
+    let unknown : Option (List ℕ) → Bool = of_some (λ v. is_none (disk_record v σ)) in
+    sym (ap unknown is) ∙ (or_parts (unknown (also_named c)) (unknown (named c)) known).1
+
 -- a disk that is named by a command that is not refused has one
 pub own_row : (s : Site) (t : VolumeTable) (m : Known) (c : Command) (u : List ℕ) → IsOrderly s t m → refusal (shape_in s t m) c ≡ None → named c ≡ Some u → IsOwn m u
-unfolding shape_in is_unknown
+unfolding shape_in
 own_row s t m c u o passes is =
     let e = ∥∥₁_elim o.well_formed (hlevel props) shown_in in
     let x = any_In (λ r. is_image_of u (machine_row r)) m.rows e in
@@ -61,7 +68,7 @@ own_row s t m c u o passes is =
 
     shown_in : IsWellFormed (shape_in s t m) → is_shown m.rows u ≡ true
     shown_in w =
-        let known = sym (ap (of_some (λ v. is_none (disk_record v (shape_in s t m)))) is) ∙ (passed (shape_in s t m) c passes).unknown in
+        let known = named_known (shape_in s t m) c u is (passed (shape_in s t m) c passes).unknown in
         let r = some_record (disk_record u (shape_in s t m)) refl known in
         let i = w.disks r.0 r.1 in
         let q = In-map machine_row m.rows i.0 i.1 in

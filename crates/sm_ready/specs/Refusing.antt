@@ -3,13 +3,13 @@ use Rattle.std.specs.Prelude.{◌≡◌, ℕ, ◌*◌, false, List, [], ◌∷�
 use Rattle.common_laws.specs.Lists.{first_some, given}
 use Rattle.sm_base.specs.Numbers.{div_up}
 use Rattle.sm_base.specs.declared.refusals.Refusal.{Refusal}
-use Rattle.sm_base.specs.declared.refusals.Refusal.TheVariants.{ReservedName, UnknownDisk, NameTaken, InUse, NotAttached, ReadOnly, RawDisk, Tracked, OutOfRange, BadSize, Shrink, ChainTooLong, TooMany, SequenceSpent, NoSpace}
+use Rattle.sm_base.specs.declared.refusals.Refusal.TheVariants.{ReservedName, UnknownDisk, NameTaken, InUse, NotAttached, ReadOnly, RawDisk, Tracked, NotTracked, OutOfRange, BadSize, Shrink, ChainTooLong, TooMany, SequenceSpent, NoSpace}
 use Rattle.sm_base.specs.declared.sizes.Geometry.{Geometry}
 use Rattle.vg_meta.specs.Roomy.{table_alone}
 use Rattle.vg_meta.specs.Tables.{VolumeTable}
 use Rattle.vg_volumes.specs.Sites.{Site}
 use Rattle.vg_volumes.specs.declared.stores.Store.{Ghosts}
-use Rattle.sm_machine.specs.Refusals.{refusal, is_reserved, is_unknown, is_taken, is_in_use, is_not_attached, is_read_only, is_raw_disk, is_tracked, is_out_of_range, is_bad_size, is_shrink, is_deep, fork_depth, is_too_many, images_needed, is_spent, lacks_space, need}
+use Rattle.sm_machine.specs.Refusals.{refusal, is_reserved, is_unknown, is_taken, is_in_use, is_not_attached, is_read_only, is_raw_disk, is_tracked, is_untracked, is_out_of_range, is_bad_size, is_shrink, is_deep, fork_depth, is_too_many, images_needed, is_spent, lacks_space, need}
 use Rattle.sm_machine.specs.Shapes.{Shape, free}
 use Rattle.sm_machine.specs.declared.commands.Command.{Command}
 use Rattle.sm_ready.specs.Known.{Known, known, shape_in}
@@ -50,7 +50,8 @@ Answers says sizes extents t m answer = (s : Site) → IsSiteOf sizes extents s 
 -- the causes in their order: names, records, attachments and logs; sectors and sizes; images, numbers and extents
 abbrev pub name_causes : Shape → Command → List (Option Refusal)
 name_causes σ c = given (is_reserved c) ReservedName ∷ given (is_unknown σ c) UnknownDisk ∷ given (is_taken σ c) NameTaken ∷ given (is_in_use σ c) InUse
-    ∷ given (is_not_attached σ c) NotAttached ∷ given (is_read_only σ c) ReadOnly ∷ given (is_raw_disk σ c) RawDisk ∷ given (is_tracked σ c) Tracked ∷ []
+    ∷ given (is_not_attached σ c) NotAttached ∷ given (is_read_only σ c) ReadOnly ∷ given (is_raw_disk σ c) RawDisk ∷ given (is_tracked σ c) Tracked
+    ∷ given (is_untracked σ c) NotTracked ∷ []
 
 abbrev pub size_causes : Shape → Command → List (Option Refusal)
 size_causes σ c = given (is_out_of_range σ c) OutOfRange ∷ given (is_bad_size σ c) BadSize ∷ given (is_shrink σ c) Shrink ∷ []

@@ -35,6 +35,18 @@ pub fn named(command: &Command) -> Option<Uuid>
         Command::Gc => None,
         Command::List => None,
         Command::Stat => None,
+        Command::Track { disk, .. } => Some(*disk),
+        Command::Changed { from, .. } => Some(*from),
+    }
+}
+
+/// The second disk that a command names.
+pub fn also_named(command: &Command) -> Option<Uuid>
+    ensures { result ≡ machine.also_named command.now }
+{
+    match command {
+        Command::Changed { to, .. } => Some(*to),
+        _ => None,
     }
 }
 

@@ -59,6 +59,6 @@ mod asking;
 mod memory;
 mod needs;
 
-pub use asking::{forked, image, image_name, is_vhd, named, new_uuid};
+pub use asking::{also_named, forked, image, image_name, is_vhd, named, new_uuid};
 pub use memory::Memory;
-pub use needs::{extents_needed, need, rounded, thick};
+pub use needs::{disk_pieces, extents_needed, log_room, need, rounded, thick};

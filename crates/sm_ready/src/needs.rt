@@ -5,7 +5,7 @@ ghost use Rattle.sm_log.specs.Logs.{log_of};
 ghost use Rattle.sm_machine.specs.Refusals as machine;
 ghost use Rattle.sm_machine.specs.Shapes.{attached_as, disk_image, is_rw, thick_in, thin_in};
 ghost use Rattle.sm_ready.specs.Known.{known, machine_row};
-ghost use Rattle.sm_ready.specs.Refusing.{Measures, Needs, Sizes, extents_for};
+ghost use Rattle.sm_ready.specs.Refusing.{Measures, Needs, Recalls, Sizes, extents_for};
 
 use crate::asking::{image, is_vhd};
 use crate::memory::Memory;
@@ -121,6 +121,25 @@ fn log_need(memory: &Memory, disk: &Uuid) -> u64
     }
 }
 
+/// The number of pieces of a disk.
+pub fn disk_pieces(memory: &Memory, disk: &Uuid) -> u32
+    ensures { Recalls (λ σ. machine.disk_pieces disk.now σ) (known memory.now) result }
+{
+    match image(memory, disk) {
+        Some(row) => row.image.sectors().div_ceil(128).min(u64::from(u32::MAX)) as u32,
+        None => 0,
+    }
+}
+
+/// The extents that the log of a disk takes: a sector, and one for 4,096 of its pieces.
+pub fn log_room(memory: &Memory, geometry: &Geometry, disk: &Uuid) -> u64
+    ensures exact { Measures (λ σ. machine.log_room σ disk.now) geometry.now (known memory.now) result }
+    ensures few { result < 2 ^ 32 }
+{
+    let sectors = 1 + u64::from(disk_pieces(memory, disk)).div_ceil(4096);
+    sectors.div_ceil(u64::from(geometry.extent))
+}
+
 /// The extents that a command takes whose size is not bad.
 pub fn need(memory: &Memory, geometry: &Geometry, command: &Command) -> u64
     ensures { Needs command.now geometry.now (known memory.now) result }
@@ -145,6 +164,13 @@ pub fn need(memory: &Memory, geometry: &Geometry, command: &Command) -> u64
             fork_need(memory, geometry, disk) + log_need(memory, disk)
         }
         Command::Clone { disk, .. } => fork_need(memory, geometry, disk),
+        Command::Track { disk, on } => {
+            if *on {
+                log_room(memory, geometry, disk)
+            } else {
+                0
+            }
+        }
         _ => 0,
     }
 }

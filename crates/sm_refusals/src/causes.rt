@@ -2,7 +2,7 @@
 //! the same name says of the shape in memory. None takes memory or calls a store. Sizes and bytes of a line may be any numbers
 //! of 64 bits: no sum wraps.
 
-ghost use Rattle.std.specs.Prelude.{◌≡◌, ◌≤◌, ◌+◌, ◌==◌, ◌&&◌, ◌||◌, is_some, length, nat_lt, not};
+ghost use Rattle.std.specs.Prelude.{◌≡◌, ◌≤◌, ◌+◌, ◌==◌, ◌&&◌, ◌||◌, is_none, is_some, length, nat_lt, not};
 ghost use Rattle.std.specs.Str.{bytes_eq};
 ghost use Rattle.sm_base.specs.Names.{is_base as is_base_uuid};
 ghost use Rattle.vg_meta.specs.Tables.{VolumeTable};
@@ -15,7 +15,7 @@ ghost use Rattle.sm_ready.specs.Refusing.{IsSiteOf, Measures, Recalls};
 
 use sm_base::{CHAIN_LIMIT, Geometry, IMAGE_LIMIT, Mode, Name, SECTOR, SPENT_SEQUENCE, is_base};
 use sm_machine::{Command, LineBytes};
-use sm_ready::{Memory, forked, image, is_vhd, named, new_uuid, rounded};
+use sm_ready::{Memory, also_named, forked, image, is_vhd, named, new_uuid, rounded};
 use uuid::Uuid;
 use vg_meta::Table;
 
@@ -47,14 +47,22 @@ fn is_disk(memory: &Memory, disk: &Uuid) -> bool
     memory.records.find(disk).is_some()
 }
 
-/// Whether no disk has the UUID.
-pub(crate) fn is_unknown(memory: &Memory, command: &Command) -> bool
-    ensures { Recalls (λ σ. machine.is_unknown σ command.now) (known memory.now) result }
+/// Whether there is a UUID, and no disk has it.
+fn is_missing(memory: &Memory, disk: Option<Uuid>) -> bool
+    ensures { Recalls (λ σ. machine.of_some (λ u. is_none (disk_record u σ)) disk) (known memory.now) result }
 {
-    match named(command) {
+    match disk {
         Some(disk) => !is_disk(memory, &disk),
         None => false,
     }
+}
+
+/// Whether no disk has the UUID, or the second one that is named.
+#[tactic(auto, unfolding(sm_machine::specs::Refusals::is_unknown))]
+pub(crate) fn is_unknown(memory: &Memory, command: &Command) -> bool
+    ensures { Recalls (λ σ. machine.is_unknown σ command.now) (known memory.now) result }
+{
+    is_missing(memory, also_named(command)) || is_missing(memory, named(command))
 }
 
 /// Whether an image has the UUID, visible or hidden.
@@ -128,7 +136,7 @@ fn is_snapshot(memory: &Memory, disk: &Uuid) -> bool
     }
 }
 
-/// Write, fill: whether the disk is attached for reading alone; attach for writing, resize: whether it is a snapshot.
+/// Write, fill: whether the disk is attached for reading alone; attach for writing, resize, a beginning of tracking: whether it is a snapshot.
 pub(crate) fn is_read_only(memory: &Memory, command: &Command) -> bool
     ensures { Recalls (λ σ. machine.is_read_only σ command.now) (known memory.now) result }
 {
@@ -140,6 +148,7 @@ pub(crate) fn is_read_only(memory: &Memory, command: &Command) -> bool
             Mode::Rw => is_snapshot(memory, disk),
         },
         Command::Resize { disk, .. } => is_snapshot(memory, disk),
+        Command::Track { disk, on } => *on && is_snapshot(memory, disk),
         _ => false,
     }
 }
@@ -164,12 +173,25 @@ pub(crate) fn is_raw_disk(memory: &Memory, command: &Command) -> bool
     }
 }
 
-/// Resize: whether the disk is tracked.
+/// Resize, a beginning of tracking: whether the disk is tracked.
 pub(crate) fn is_tracked(memory: &Memory, command: &Command) -> bool
     ensures { Recalls (λ σ. machine.is_tracked σ command.now) (known memory.now) result }
 {
     match command {
         Command::Resize { disk, .. } => memory.logs.get(disk).is_some(),
+        Command::Track { disk, on } => *on && memory.logs.get(disk).is_some(),
+        _ => false,
+    }
+}
+
+/// An end of tracking: whether the disk is not tracked; what changed between two disks: whether the logs do not lead from the second one back
+/// to the first.
+pub(crate) fn is_untracked(memory: &Memory, command: &Command) -> bool
+    ensures { Recalls (λ σ. machine.is_untracked σ command.now) (known memory.now) result }
+{
+    match command {
+        Command::Track { disk, on } => !*on && memory.logs.get(disk).is_none(),
+        Command::Changed { from, to } => !memory.logs.leads(from, to),
         _ => false,
     }
 }

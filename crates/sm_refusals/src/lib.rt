@@ -5,7 +5,7 @@
 //!
 //! **What it promises.** The answer is the machine's first cause (`refusal`), told or not, whatever the sectors hold (`Answers` of
 //! `sm_ready`): first the causes by names (reserved, unknown, taken), then those by the disk's state (in use, not attached, read only,
-//! raw, tracked), then those by sizes and places, and at last those by room (chains, images, sequence numbers, extents). It is asked once,
+//! raw, tracked or not), then those by sizes and places, and at last those by room (chains, images, sequence numbers, extents). It is asked once,
 //! before a command is taken. [`refuse_import`] answers the first cause for which a disk can't be imported whatever its file holds: of those
 //! of a create its UUID, the images and the sequence number (`specs/Importing`).
 //!

@@ -15,7 +15,7 @@ ghost use Rattle.sm_ready.specs.Refusing.{Answers, LacksRoom, Recalls, name_caus
 use crate::causes::{
     fork_depth, images_needed, is_bad_size, is_deep, is_in_use, is_not_attached, is_out_of_range,
     is_raw_disk, is_read_only, is_reserved, is_shrink, is_spent, is_taken, is_too_many, is_tracked,
-    is_unknown,
+    is_unknown, is_untracked,
 };
 use sm_base::{Geometry, Refusal};
 use sm_machine::Command;
@@ -72,6 +72,9 @@ fn refuse_by_name(memory: &Memory, command: &Command) -> Option<Refusal>
     }
     if is_tracked(memory, command) {
         return Some(Refusal::Tracked);
+    }
+    if is_untracked(memory, command) {
+        return Some(Refusal::NotTracked);
     }
     None
 }

@@ -11,14 +11,15 @@ use Rattle.sm_ready.proofs.NeedLaws.{is_within}
 use Rattle.sm_ready.proofs.needs.need.Goals as goal
 
 -- no other command takes any
-other : (σ : Shape) (c : Command) → ((u : List ℕ) (size : ℕ) (raw : Bool) (label : List ℕ) → c ≡ command.Create u size raw label → ⊥) → ((u : List ℕ) (mode : Mode) → c ≡ command.Attach u mode → ⊥) → ((u : List ℕ) (size : ℕ) → c ≡ command.Resize u size → ⊥) → ((u : List ℕ) (twin : List ℕ) → c ≡ command.Snapshot u twin → ⊥) → ((u : List ℕ) (twin : List ℕ) → c ≡ command.Clone u twin → ⊥) → 0 ≡ need σ c
+other : (σ : Shape) (c : Command) → ((u : List ℕ) (size : ℕ) (raw : Bool) (label : List ℕ) → c ≡ command.Create u size raw label → ⊥) → ((u : List ℕ) (mode : Mode) → c ≡ command.Attach u mode → ⊥) → ((u : List ℕ) (size : ℕ) → c ≡ command.Resize u size → ⊥) → ((u : List ℕ) (twin : List ℕ) → c ≡ command.Snapshot u twin → ⊥) → ((u : List ℕ) (twin : List ℕ) → c ≡ command.Clone u twin → ⊥) → ((u : List ℕ) (on : Bool) → c ≡ command.Track u on → ⊥) → 0 ≡ need σ c
 unfolding need
-other σ (command.Create u size raw label) no_create no_attach no_resize no_snapshot no_clone = absurd (no_create u size raw label refl)
-other σ (command.Attach u mode) no_create no_attach no_resize no_snapshot no_clone = absurd (no_attach u mode refl)
-other σ (command.Resize u size) no_create no_attach no_resize no_snapshot no_clone = absurd (no_resize u size refl)
-other σ (command.Snapshot u twin) no_create no_attach no_resize no_snapshot no_clone = absurd (no_snapshot u twin refl)
-other σ (command.Clone u twin) no_create no_attach no_resize no_snapshot no_clone = absurd (no_clone u twin refl)
-other σ _ no_create no_attach no_resize no_snapshot no_clone = refl
+other σ (command.Create u size raw label) no_create no_attach no_resize no_snapshot no_clone no_track = absurd (no_create u size raw label refl)
+other σ (command.Attach u mode) no_create no_attach no_resize no_snapshot no_clone no_track = absurd (no_attach u mode refl)
+other σ (command.Resize u size) no_create no_attach no_resize no_snapshot no_clone no_track = absurd (no_resize u size refl)
+other σ (command.Snapshot u twin) no_create no_attach no_resize no_snapshot no_clone no_track = absurd (no_snapshot u twin refl)
+other σ (command.Clone u twin) no_create no_attach no_resize no_snapshot no_clone no_track = absurd (no_clone u twin refl)
+other σ (command.Track u on) no_create no_attach no_resize no_snapshot no_clone no_track = absurd (no_track u on refl)
+other σ _ no_create no_attach no_resize no_snapshot no_clone no_track = refl
 
 pub returns-then-raw : goal.returns-then-raw
 unfolding need shape_in
@@ -58,5 +59,14 @@ pub returns-in-Clone : goal.returns-in-Clone
 unfolding need
 returns-in-Clone c = λ s t same o tidy good. c.fork_need-in-Clone.ensures.exact s t same o tidy ∙ sym (ap (need (shape_in s t (known c.args.memory.now))) c.in-Clone.is)
 
+pub returns-then-on : goal.returns-then-on
+unfolding need log_need
+returns-then-on c = λ s t same o tidy good.
+    c.log_room.ensures.exact s t same o tidy ∙ sym (ap (need (shape_in s t (known c.args.memory.now))) (c.in-Track.is ∙ ap (command.Track c.in-Track.disk) c.if-on.true))
+
+pub returns-else-on : goal.returns-else-on
+unfolding need
+returns-else-on c = λ s t same o tidy good. sym (ap (need (shape_in s t (known c.args.memory.now))) (c.in-Track.is ∙ ap (command.Track c.in-Track.disk) c.if-on.false))
+
 pub returns-in_default : goal.returns-in_default
-returns-in_default c = λ s t same o tidy good. other (shape_in s t (known c.args.memory.now)) c.args.command.now c.in_default.not-Create c.in_default.not-Attach c.in_default.not-Resize c.in_default.not-Snapshot c.in_default.not-Clone
+returns-in_default c = λ s t same o tidy good. other (shape_in s t (known c.args.memory.now)) c.args.command.now c.in_default.not-Create c.in_default.not-Attach c.in_default.not-Resize c.in_default.not-Snapshot c.in_default.not-Clone c.in_default.not-Track

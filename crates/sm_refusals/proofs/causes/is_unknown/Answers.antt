@@ -1,12 +1,19 @@
-use Rattle.std.proofs.Common.{not, refl, sym, ap, ◌∙◌}
-use Rattle.sm_machine.specs.Refusals.{is_unknown}
-use Rattle.sm_ready.proofs.LookLaws.{not_some}
+use Rattle.std.proofs.Common.{◌≡◌, ◌||◌, Bool, true, false, is_none, List, ℕ, Option, sym, ap, ◌∙◌}
+use Rattle.sm_machine.specs.Refusals.{also_named, is_unknown, named, of_some}
+use Rattle.sm_machine.specs.Shapes.{disk_record}
+use Rattle.sm_ready.specs.Known.{known, shape_in}
 use Rattle.sm_refusals.proofs.causes.is_unknown.Goals as goal
 
-pub returns-in-Some : goal.returns-in-Some
+pub returns-then-is_missing : goal.returns-then-is_missing
 unfolding is_unknown
-returns-in-Some c = λ s t o tidy. rw (sym c.named.ensures ∙ c.in-Some.is) (ap not (c.is_disk.ensures s t o tidy) ∙ not_some _)
+returns-then-is_missing c = λ s t o tidy.
+    let unknown : Option (List ℕ) → Bool = of_some (λ u. is_none (disk_record u (shape_in s t (known c.args.memory.now)))) in
+    let first : unknown (also_named c.args.command.now) ≡ true = sym (ap unknown c.also_named.ensures) ∙ sym (c.is_missing.ensures s t o tidy) ∙ c.if-is_missing.true in
+    c.if-is_missing.true ∙ sym (ap (λ b. b || unknown (named c.args.command.now)) first)
 
-pub returns-in-None : goal.returns-in-None
+pub returns-else-is_missing : goal.returns-else-is_missing
 unfolding is_unknown
-returns-in-None c = λ s t o tidy. rw (sym c.named.ensures ∙ c.in-None.is) refl
+returns-else-is_missing c = λ s t o tidy.
+    let unknown : Option (List ℕ) → Bool = of_some (λ u. is_none (disk_record u (shape_in s t (known c.args.memory.now)))) in
+    let first : unknown (also_named c.args.command.now) ≡ false = sym (ap unknown c.also_named.ensures) ∙ sym (c.is_missing.ensures s t o tidy) ∙ c.if-is_missing.false in
+    c.is_missing-else-is_missing.ensures s t o tidy ∙ ap unknown c.named.ensures ∙ sym (ap (λ b. b || unknown (named c.args.command.now)) first)

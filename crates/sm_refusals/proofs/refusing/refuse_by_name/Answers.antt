@@ -26,5 +26,8 @@ returns-then-is_raw_disk c = λ s t o tidy. passed_by _ _ _ _ (sym (c.is_reserve
 pub returns-then-is_tracked : goal.returns-then-is_tracked
 returns-then-is_tracked c = λ s t o tidy. passed_by _ _ _ _ (sym (c.is_reserved.ensures) ∙ c.if-is_reserved.false) (passed_by _ _ _ _ (sym (c.is_unknown.ensures s t o tidy) ∙ c.if-is_unknown.false) (passed_by _ _ _ _ (sym (c.is_taken.ensures s t o tidy) ∙ c.if-is_taken.false) (passed_by _ _ _ _ (sym (c.is_in_use.ensures s t o tidy) ∙ c.if-is_in_use.false) (passed_by _ _ _ _ (sym (c.is_not_attached.ensures s t o tidy) ∙ c.if-is_not_attached.false) (passed_by _ _ _ _ (sym (c.is_read_only.ensures s t o tidy) ∙ c.if-is_read_only.false) (passed_by _ _ _ _ (sym (c.is_raw_disk.ensures s t o tidy) ∙ c.if-is_raw_disk.false) (caught _ _ _ (sym (c.is_tracked.ensures s t o tidy) ∙ c.if-is_tracked.true))))))))
 
+pub returns-then-is_untracked : goal.returns-then-is_untracked
+returns-then-is_untracked c = λ s t o tidy. passed_by _ _ _ _ (sym (c.is_reserved.ensures) ∙ c.if-is_reserved.false) (passed_by _ _ _ _ (sym (c.is_unknown.ensures s t o tidy) ∙ c.if-is_unknown.false) (passed_by _ _ _ _ (sym (c.is_taken.ensures s t o tidy) ∙ c.if-is_taken.false) (passed_by _ _ _ _ (sym (c.is_in_use.ensures s t o tidy) ∙ c.if-is_in_use.false) (passed_by _ _ _ _ (sym (c.is_not_attached.ensures s t o tidy) ∙ c.if-is_not_attached.false) (passed_by _ _ _ _ (sym (c.is_read_only.ensures s t o tidy) ∙ c.if-is_read_only.false) (passed_by _ _ _ _ (sym (c.is_raw_disk.ensures s t o tidy) ∙ c.if-is_raw_disk.false) (passed_by _ _ _ _ (sym (c.is_tracked.ensures s t o tidy) ∙ c.if-is_tracked.false) (caught _ _ _ (sym (c.is_untracked.ensures s t o tidy) ∙ c.if-is_untracked.true)))))))))
+
 pub returns : goal.returns
-returns c = λ s t o tidy. passed_by _ _ _ _ (sym (c.is_reserved.ensures) ∙ c.if-is_reserved.false) (passed_by _ _ _ _ (sym (c.is_unknown.ensures s t o tidy) ∙ c.if-is_unknown.false) (passed_by _ _ _ _ (sym (c.is_taken.ensures s t o tidy) ∙ c.if-is_taken.false) (passed_by _ _ _ _ (sym (c.is_in_use.ensures s t o tidy) ∙ c.if-is_in_use.false) (passed_by _ _ _ _ (sym (c.is_not_attached.ensures s t o tidy) ∙ c.if-is_not_attached.false) (passed_by _ _ _ _ (sym (c.is_read_only.ensures s t o tidy) ∙ c.if-is_read_only.false) (passed_by _ _ _ _ (sym (c.is_raw_disk.ensures s t o tidy) ∙ c.if-is_raw_disk.false) (passed_by _ _ _ _ (sym (c.is_tracked.ensures s t o tidy) ∙ c.if-is_tracked.false) refl)))))))
+returns c = λ s t o tidy. passed_by _ _ _ _ (sym (c.is_reserved.ensures) ∙ c.if-is_reserved.false) (passed_by _ _ _ _ (sym (c.is_unknown.ensures s t o tidy) ∙ c.if-is_unknown.false) (passed_by _ _ _ _ (sym (c.is_taken.ensures s t o tidy) ∙ c.if-is_taken.false) (passed_by _ _ _ _ (sym (c.is_in_use.ensures s t o tidy) ∙ c.if-is_in_use.false) (passed_by _ _ _ _ (sym (c.is_not_attached.ensures s t o tidy) ∙ c.if-is_not_attached.false) (passed_by _ _ _ _ (sym (c.is_read_only.ensures s t o tidy) ∙ c.if-is_read_only.false) (passed_by _ _ _ _ (sym (c.is_raw_disk.ensures s t o tidy) ∙ c.if-is_raw_disk.false) (passed_by _ _ _ _ (sym (c.is_tracked.ensures s t o tidy) ∙ c.if-is_tracked.false) (passed_by _ _ _ _ (sym (c.is_untracked.ensures s t o tidy) ∙ c.if-is_untracked.false) refl))))))))
