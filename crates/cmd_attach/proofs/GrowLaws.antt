@@ -5,7 +5,7 @@ use Rattle.common_laws.specs.Lists.{In}
 use Rattle.sm_base.specs.declared.operations.Mode.TheVariants.{Rw}
 use Rattle.sm_machine.specs.declared.commands.Command.TheVariants.{Attach}
 use Rattle.sm_machine.specs.Commits.{commits, growth_commits, is_given_up, one_if, own_commits}
-use Rattle.sm_machine.specs.Refusals.{forked, is_bad_size, is_deep, is_in_use, is_not_attached, is_out_of_range, is_raw_disk, is_tracked, is_read_only, is_shrink, is_spent, is_taken, is_too_many, is_unknown, lacking, lacks_space, named, need, new_uuid, refusal, with_image_of}
+use Rattle.sm_machine.specs.Refusals.{forked, is_bad_size, is_deep, is_in_use, is_not_attached, is_out_of_range, is_raw_disk, is_tracked, is_untracked, is_read_only, is_shrink, is_spent, is_taken, is_too_many, is_unknown, lacking, lacks_space, named, need, new_uuid, refusal, with_image_of}
 use Rattle.sm_machine.specs.Shapes.{ImageRow, Shape, free, is_image_of, is_vhd, risen}
 use Rattle.sm_machine.specs.Steps.{attach_images, given_up, shape_after, shape_next}
 use Rattle.sm_machine.specs.WellFormed.{IsWellFormed}
@@ -29,7 +29,7 @@ module _ (σ : Shape) (w : IsWellFormed σ) (u : List ℕ) (i : ImageRow) (there
 
   -- it may be attached as before
   pub grown_allowed : refusal σ (Attach u Rw) ≡ None → refusal with_room (Attach u Rw) ≡ None
-  unfolding is_unknown is_taken is_in_use is_not_attached is_read_only is_raw_disk is_tracked is_out_of_range is_bad_size is_shrink is_deep is_too_many is_spent lacks_space named new_uuid forked
+  unfolding is_unknown is_taken is_in_use is_not_attached is_read_only is_raw_disk is_tracked is_untracked is_out_of_range is_bad_size is_shrink is_deep is_too_many is_spent lacks_space named new_uuid forked
   grown_allowed passes =
       let p = passed σ (Attach u Rw) passes in
       none_refuses with_room (Attach u Rw) (record {
@@ -41,6 +41,7 @@ module _ (σ : Shape) (w : IsWellFormed σ) (u : List ℕ) (i : ImageRow) (there
         read_only = p.read_only;
         raw_disk = refl;
         tracked = refl;
+        untracked = refl;
         out_of_range = refl;
         bad_size = refl;
         shrink = refl;

@@ -8,7 +8,7 @@ use Rattle.std.proofs.Math.Seq.{drop-append_seam}
 use Rattle.common_laws.specs.Lists.{first_some, given}
 use Rattle.sm_machine.specs.Commits.{commits, own_commits, is_given_up, gives_up}
 use Rattle.sm_machine.specs.Disks.{cut_sectors, filled, on_disk}
-use Rattle.sm_machine.specs.Refusals.{refusal, is_reserved, is_unknown, is_taken, is_in_use, is_not_attached, is_read_only, is_raw_disk, is_tracked, is_out_of_range, is_outside, is_bad_size, is_shrink, is_deep, is_too_many, is_spent, lacks_space, need, named, new_uuid, forked, images_needed, of_some}
+use Rattle.sm_machine.specs.Refusals.{refusal, is_reserved, is_unknown, is_taken, is_in_use, is_not_attached, is_read_only, is_raw_disk, is_tracked, is_untracked, is_out_of_range, is_outside, is_bad_size, is_shrink, is_deep, is_too_many, is_spent, lacks_space, need, named, new_uuid, forked, images_needed, of_some}
 use Rattle.sm_machine.specs.Runs.{is_settling}
 use Rattle.sm_machine.specs.Shapes.{Shape, disk_image, free, risen}
 use Rattle.sm_base.specs.declared.faults.Failed.{Failed}
@@ -46,9 +46,9 @@ pub length_all : (n byte : ℕ) → length (all_of n byte) / 512 ≡ n
 length_all n byte = let e = length-replicate (512 * n) byte in omega (arith, e)
 
 pub fill_allowed : (s : Shape) (u : List ℕ) (at n byte : ℕ) → refusal s (Fill u at n byte) ≡ None → refusal s (Write u at (all_of n byte)) ≡ None
-unfolding refusal is_reserved is_unknown is_taken is_in_use is_not_attached is_read_only is_raw_disk is_tracked is_out_of_range is_bad_size is_shrink is_deep is_too_many is_spent lacks_space need named new_uuid forked images_needed
+unfolding refusal is_reserved is_unknown is_taken is_in_use is_not_attached is_read_only is_raw_disk is_tracked is_untracked is_out_of_range is_bad_size is_shrink is_deep is_too_many is_spent lacks_space need named new_uuid forked images_needed
 fill_allowed s u at n byte allowed =
-    ap (λ b. first_some (given (is_unknown s (Fill u at n byte)) UnknownDisk ∷ None ∷ None ∷ given (is_not_attached s (Fill u at n byte)) NotAttached ∷ given (is_read_only s (Fill u at n byte)) ReadOnly ∷ None ∷ None
+    ap (λ b. first_some (given (is_unknown s (Fill u at n byte)) UnknownDisk ∷ None ∷ None ∷ given (is_not_attached s (Fill u at n byte)) NotAttached ∷ given (is_read_only s (Fill u at n byte)) ReadOnly ∷ None ∷ None ∷ None
     ∷ given b OutOfRange ∷ None ∷ None ∷ None ∷ None ∷ None ∷ given (lacks_space s (Fill u at n byte)) (NoSpace 0 (free s)) ∷ [])) range ∙ allowed
   where
     even : length (all_of n byte) % 512 ≡ 0

@@ -54,6 +54,7 @@ use Rattle.sm_ready.proofs.Orders.{In-tree_row, geometry_of, named_row, raw_row,
 use Rattle.sm_ready.proofs.RowLaws.{image_named, volume_there}
 use Rattle.sm_ready.proofs.ShapeLaws.{plainly_stands, records_now, visible_row}
 use Rattle.sm_ready.proofs.Steadies.{steady_valid, steady_size, steady_parent}
+use Rattle.sm_ready.proofs.OwnLaws.{named_known}
 use Rattle.cmd_guest.proofs.OwnLaws.{own_name_is}
 use Rattle.sm_ready.proofs.TruthLaws.{row_found, row_sectors}
 
@@ -191,7 +192,7 @@ module _ (s : Site) (t : VolumeTable) (area : Held) (m : Known) (o : IsOrderly s
 
   pub disk_own : (c : Command) (u : List ℕ) (r : TreeRow) → named c ≡ Some u → refusal (shape_in s t m) c ≡ None → IsWellFormed (shape_in s t m) → In r m.rows → r.hidden ≡ false → image_uuid (row_name r) ≡ u → IsDiskOf u (row_name r)
   unfolding is_unknown shape_in
-  disk_own c u r names allowed w i shown uuid = by (disk_record u (shape_in s t m)) refl (sym (ap (of_some (λ v. is_none (disk_record v (shape_in s t m)))) names) ∙ (passed (shape_in s t m) c allowed).unknown)
+  disk_own c u r names allowed w i shown uuid = by (disk_record u (shape_in s t m)) refl (named_known (shape_in s t m) c u names (passed (shape_in s t m) c allowed).unknown)
     where
       by : (x : Option DiskRecord) → disk_record u (shape_in s t m) ≡ x → is_none (disk_record u (shape_in s t m)) ≡ false → IsDiskOf u (row_name r)
       by None e none = absurd (true≢false (sym (ap is_none e) ∙ none))

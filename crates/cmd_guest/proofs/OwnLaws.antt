@@ -24,6 +24,7 @@ use Rattle.sm_ready.specs.Known.{Known, machine_row, shape_in}
 use Rattle.sm_ready.specs.Orderly.{IsOrderly}
 use Rattle.sm_ready.proofs.CauseLaws.{named_as, vhd_uuid, raw_uuid}
 use Rattle.sm_ready.proofs.Orders.{In-tree_row, named_row}
+use Rattle.sm_ready.proofs.OwnLaws.{named_known}
 use Rattle.sm_ready.proofs.RowLaws.{tree_found}
 use Rattle.cmd_guest.specs.Writing.{own_name}
 
@@ -64,7 +65,7 @@ module _ (s : Site) (t : VolumeTable) (m : Known) (u : List ℕ) (o : IsOrderly 
 
   own_in : (c : Command) → named c ≡ Some u → refusal (shape_in s t m) c ≡ None → IsWellFormed (shape_in s t m) → HasOwn
   unfolding is_unknown shape_in
-  own_in c names allowed w = by (disk_record u (shape_in s t m)) refl (sym (ap (of_some (λ v. is_none (disk_record v (shape_in s t m)))) names) ∙ (passed (shape_in s t m) c allowed).unknown)
+  own_in c names allowed w = by (disk_record u (shape_in s t m)) refl (named_known (shape_in s t m) c u names (passed (shape_in s t m) c allowed).unknown)
     where
       by : (x : Option DiskRecord) → disk_record u (shape_in s t m) ≡ x → is_none (disk_record u (shape_in s t m)) ≡ false → HasOwn
       by None e none = absurd (true≢false (sym (ap is_none e) ∙ none))

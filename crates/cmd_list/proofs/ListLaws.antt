@@ -18,7 +18,7 @@ use Rattle.sm_machine.specs.Disks.{Disk}
 use Rattle.sm_machine.specs.Shapes.{Shape, DiskRecord, free}
 use Rattle.sm_machine.specs.Commits.{is_given_up, own_commits, gives_up}
 use Rattle.sm_machine.specs.Steps.{State, Outcome, disk_row, step, with_record, accepted, disks_next, shape_after, reply_to}
-use Rattle.sm_machine.specs.Refusals.{refusal, is_reserved, is_unknown, is_taken, is_in_use, is_not_attached, is_read_only, is_raw_disk, is_tracked, is_out_of_range, is_bad_size, is_shrink, is_deep, is_too_many, is_spent, lacks_space, need, named, new_uuid, forked}
+use Rattle.sm_machine.specs.Refusals.{refusal, is_reserved, is_unknown, is_taken, is_in_use, is_not_attached, is_read_only, is_raw_disk, is_tracked, is_untracked, is_out_of_range, is_bad_size, is_shrink, is_deep, is_too_many, is_spent, lacks_space, need, named, new_uuid, forked}
 use Rattle.sm_machine.specs.WellFormed.{IsWellFormed}
 use Rattle.sm_machine.specs.declared.commands.Command.TheVariants.{List as ListDisks}
 use Rattle.sm_machine.specs.declared.replies.DiskRow.{DiskRow}
@@ -96,7 +96,7 @@ listed_now s t area m o ready w =
 -- ---- and so the machine answers
 
 never : (s : Shape) → refusal s ListDisks ≡ None
-unfolding refusal is_reserved is_unknown is_taken is_in_use is_not_attached is_read_only is_raw_disk is_tracked is_out_of_range is_bad_size is_shrink is_deep is_too_many is_spent lacks_space need named new_uuid forked
+unfolding refusal is_reserved is_unknown is_taken is_in_use is_not_attached is_read_only is_raw_disk is_tracked is_untracked is_out_of_range is_bad_size is_shrink is_deep is_too_many is_spent lacks_space need named new_uuid forked
 never s = ap (λ b. first_some (given b (NoSpace 0 (free s)) ∷ [])) (le-ltb (free s) 0 (omega arith))
 
 step_reply : (σ : State) → (step σ ListDisks).reply ≡ reply.List (map disk_row σ.disks)

@@ -16,11 +16,11 @@ use Rattle.vg_volumes.specs.Stored.{Commits, IsChoiceOf, stored}
 use Rattle.vg_volumes.specs.declared.stores.Store.{Ghosts}
 use Rattle.sm_machine.specs.Commits.{commits, folds, gives_up, is_given_up, one_if, own_commits}
 use Rattle.sm_machine.specs.Disks.{Disk}
-use Rattle.sm_machine.specs.Refusals.{forked, is_bad_size, is_deep, is_in_use, is_not_attached, is_out_of_range, is_raw_disk, is_tracked, log_need, is_read_only, is_shrink, is_spent, is_taken, is_too_many, is_unknown, lacks_space, named, need, new_uuid, refusal, rounded}
+use Rattle.sm_machine.specs.Refusals.{forked, is_bad_size, is_deep, is_in_use, is_not_attached, is_out_of_range, is_raw_disk, is_tracked, is_untracked, log_need, is_read_only, is_shrink, is_spent, is_taken, is_too_many, is_unknown, lacks_space, named, need, new_uuid, refusal, rounded}
 use Rattle.sm_machine.specs.Shapes.{Shape, free, image_uuid, risen}
 use Rattle.sm_machine.specs.Steps.{disks_next, given_up, shape_after, shape_next}
 use Rattle.sm_machine.specs.declared.commands.Command.{Command}
-use Rattle.sm_machine.specs.declared.commands.Command.TheVariants.{Attach, Clone, Create, Delete, Detach, Fill, Flush, Gc, Label, List as Listing, Read, Resize, Snapshot, Stat, Write}
+use Rattle.sm_machine.specs.declared.commands.Command.TheVariants.{Attach, Changed, Clone, Create, Delete, Detach, Fill, Flush, Gc, Label, List as Listing, Read, Resize, Snapshot, Stat, Track, Write}
 use Rattle.sm_record.specs.declared.records.Record.{Record}
 use Rattle.sm_refs.specs.Attached.{Attached}
 use Rattle.vhd_chain.specs.Trees.{Tree}
@@ -46,7 +46,7 @@ use Rattle.gc_abandon.proofs.EndingLaws.{ends, folding_of, leaf_folded, orderly_
 
 -- what it is refused for
 pub refusal_abandoned : (s : Shape) (c : Command) → is_own c ≡ true → refusal (abandoned s) c ≡ refusal s c
-unfolding refusal is_unknown is_taken is_in_use is_not_attached is_read_only is_raw_disk is_tracked is_out_of_range is_bad_size is_shrink is_deep is_too_many is_spent lacks_space log_need need named new_uuid forked rounded free
+unfolding refusal is_unknown is_taken is_in_use is_not_attached is_read_only is_raw_disk is_tracked is_untracked is_out_of_range is_bad_size is_shrink is_deep is_too_many is_spent lacks_space log_need need named new_uuid forked rounded free
 refusal_abandoned s (Delete u) own = refl
 refusal_abandoned s (Attach u Rw) own = refl
 refusal_abandoned s (Attach u Ro) own = refl
@@ -112,7 +112,7 @@ next_abandoned s c own is =
 
 -- what a fork is refused for
 pub refusal_forked : (s : Shape) (c : Command) → is_fork c ≡ true → refusal (idle s) c ≡ refusal s c
-unfolding refusal is_unknown is_taken is_in_use is_not_attached is_read_only is_raw_disk is_tracked is_out_of_range is_bad_size is_shrink is_deep is_too_many is_spent lacks_space log_need need named new_uuid forked free
+unfolding refusal is_unknown is_taken is_in_use is_not_attached is_read_only is_raw_disk is_tracked is_untracked is_out_of_range is_bad_size is_shrink is_deep is_too_many is_spent lacks_space log_need need named new_uuid forked free
 refusal_forked s (Snapshot u twin) fork = refl
 refusal_forked s (Clone u twin) fork = refl
 refusal_forked s _ fork = absurd (true≢false (sym fork))
@@ -159,6 +159,8 @@ disks_abandoned ds s (Flush u) = refl
 disks_abandoned ds s Gc = refl
 disks_abandoned ds s Listing = refl
 disks_abandoned ds s Stat = refl
+disks_abandoned ds s (Track u on) = refl
+disks_abandoned ds s (Changed u n) = refl
 
 -- ---- in a store
 

@@ -22,7 +22,7 @@ use Rattle.vg_volumes.specs.declared.stores.Store.{Ghosts}
 use Rattle.vhd_chain.specs.Trees.{Tree, has_name, row_name, tree_row, without}
 use Rattle.vhd_chain.specs.declared.rows.TreeRow.{TreeRow}
 use Rattle.sm_machine.specs.Collector.{is_childless, next_step}
-use Rattle.sm_machine.specs.Refusals.{forked, is_bad_size, is_deep, is_in_use, is_not_attached, is_out_of_range, is_raw_disk, is_tracked, is_read_only, is_reserved, is_shrink, is_spent, is_taken, is_too_many, is_unknown, lacks_space, named, need, new_uuid, refusal}
+use Rattle.sm_machine.specs.Refusals.{forked, is_bad_size, is_deep, is_in_use, is_not_attached, is_out_of_range, is_raw_disk, is_tracked, is_untracked, is_read_only, is_reserved, is_shrink, is_spent, is_taken, is_too_many, is_unknown, lacks_space, named, need, new_uuid, refusal}
 use Rattle.sm_machine.specs.Shapes.{ImageRow, Shape, children, free, image_uuid, is_image_of, is_parent, same_image}
 use Rattle.sm_machine.specs.Steps.{State, accepted, disks_next, shape_next, step, unless_refused}
 use Rattle.sm_machine.specs.WellFormed.{is_image_name}
@@ -61,7 +61,7 @@ unfolding lacks_space need
 fits_always σ = le-ltb (free σ) 0 (omega arith)
 
 never_refused : (σ : Shape) → refusal σ Gc ≡ None
-unfolding refusal is_reserved is_unknown is_taken is_in_use is_not_attached is_read_only is_raw_disk is_tracked is_out_of_range is_bad_size is_shrink is_deep is_too_many is_spent new_uuid named forked
+unfolding refusal is_reserved is_unknown is_taken is_in_use is_not_attached is_read_only is_raw_disk is_tracked is_untracked is_out_of_range is_bad_size is_shrink is_deep is_too_many is_spent new_uuid named forked
 never_refused σ = ap (λ b. first_some (given b (NoSpace (need σ Gc) (free σ)) ∷ [])) (fits_always σ)
 
 -- ---- in memory

@@ -22,7 +22,7 @@ use Rattle.sm_machine.proofs.Passed.{passed}
 use Rattle.sm_mgt.specs.Places.{record_in}
 use Rattle.sm_ready.proofs.LookLaws.{record_is}
 use Rattle.sm_ready.proofs.NeedLaws.{need_few}
-use Rattle.sm_ready.proofs.OwnLaws.{IsOwn, own_image, own_name as name_of, own_row}
+use Rattle.sm_ready.proofs.OwnLaws.{IsOwn, named_known, own_image, own_name as name_of, own_row}
 use Rattle.sm_ready.proofs.RefusalLaws.{IsNewUuid, new_passed}
 use Rattle.sm_ready.proofs.RowLaws.{tree_found}
 use Rattle.sm_clone.specs.Forking.{AreForFork, Passes, forking, own_name, sectors_of}
@@ -113,7 +113,7 @@ module _ (s : Site) (t : VolumeTable) (m : Known) (u twin : List ℕ) (read_only
   pub recorded : record_in m.places u ≡ None → ⊥
   unfolding is_unknown
   recorded none = true≢false (sym (ap is_none (record_is s numbered m u None passes.orderly tidy_numbered none))
-      ∙ sym (ap (of_some (λ v. is_none (disk_record v (shape_in s numbered m)))) (named_is u twin read_only)) ∙ (passed (shape_in s numbered m) (forking u twin read_only) passes.unrefused).unknown)
+      ∙ named_known (shape_in s numbered m) (forking u twin read_only) u (named_is u twin read_only) (passed (shape_in s numbered m) (forking u twin read_only) passes.unrefused).unknown)
 
   -- it takes what the disk's image wants, and what an image has without slots
   pub need_is : need (shape_in s t m) (Clone u twin)

@@ -22,7 +22,7 @@ skip false x rest e = refl
 pub none_refuses : (s : Shape) (c : Command) → IsPassed s c → refusal s c ≡ None
 unfolding refusal
 none_refuses s c p =
-    skip _ _ _ p.reserved ∙ skip _ _ _ p.unknown ∙ skip _ _ _ p.taken ∙ skip _ _ _ p.in_use ∙ skip _ _ _ p.not_attached ∙ skip _ _ _ p.read_only ∙ skip _ _ _ p.raw_disk ∙ skip _ _ _ p.tracked
+    skip _ _ _ p.reserved ∙ skip _ _ _ p.unknown ∙ skip _ _ _ p.taken ∙ skip _ _ _ p.in_use ∙ skip _ _ _ p.not_attached ∙ skip _ _ _ p.read_only ∙ skip _ _ _ p.raw_disk ∙ skip _ _ _ p.tracked ∙ skip _ _ _ p.untracked
     ∙ skip _ _ _ p.out_of_range ∙ skip _ _ _ p.bad_size ∙ skip _ _ _ p.shrink ∙ skip _ _ _ p.deep ∙ skip _ _ _ p.too_many ∙ skip _ _ _ p.spent ∙ skip _ _ _ p.space
 
 pub map_alike : {A B : Type 0} (f g : A → B) (xs : List A) → ((x : A) → In x xs → f x ≡ g x) → map f xs ≡ map g xs

@@ -13,7 +13,7 @@ use Rattle.vhd_chain.specs.Trees.{row_name, tree_row}
 use Rattle.sm_machine.specs.declared.commands.Command.TheVariants.{Resize}
 use Rattle.sm_machine.specs.Commits.{commits, growth_commits, is_given_up, one_if, own_commits}
 use Rattle.sm_machine.specs.Disks.{Disk}
-use Rattle.sm_machine.specs.Refusals.{forked, is_bad_size, is_deep, is_in_use, is_not_attached, is_out_of_range, is_raw_disk, is_tracked, is_read_only, is_shrink, is_spent, is_taken, is_too_many, is_unknown, lacking_for, lacking_larger, lacks_space, named, need, new_uuid, of_some, refusal, rounded, with_image_of}
+use Rattle.sm_machine.specs.Refusals.{forked, is_bad_size, is_deep, is_in_use, is_not_attached, is_out_of_range, is_raw_disk, is_tracked, is_untracked, is_read_only, is_shrink, is_spent, is_taken, is_too_many, is_unknown, lacking_for, lacking_larger, lacks_space, named, need, new_uuid, of_some, refusal, rounded, with_image_of}
 use Rattle.sm_machine.specs.Shapes.{ImageRow, Shape, attached_as, disk_image, free, is_image_of, is_rw, is_vhd, risen, thick_in}
 use Rattle.sm_machine.specs.Steps.{disks_next, given_up, resize_shape, shape_after, shape_next}
 use Rattle.sm_machine.specs.WellFormed.{IsWellFormed}
@@ -62,7 +62,7 @@ module _ (σ : Shape) (w : IsWellFormed σ) (u : List ℕ) (bytes : ℕ) (i : Im
 
   -- it may get the size as before
   pub grown_allowed : refusal σ (Resize u bytes) ≡ None → refusal with_room (Resize u bytes) ≡ None
-  unfolding is_unknown is_taken is_in_use is_not_attached is_read_only is_raw_disk is_tracked is_out_of_range is_bad_size is_shrink is_deep is_too_many is_spent lacks_space named new_uuid forked rounded
+  unfolding is_unknown is_taken is_in_use is_not_attached is_read_only is_raw_disk is_tracked is_untracked is_out_of_range is_bad_size is_shrink is_deep is_too_many is_spent lacks_space named new_uuid forked rounded
   grown_allowed passes =
       let p = passed σ (Resize u bytes) passes in
       none_refuses with_room (Resize u bytes) (record {
@@ -74,6 +74,7 @@ module _ (σ : Shape) (w : IsWellFormed σ) (u : List ℕ) (bytes : ℕ) (i : Im
         read_only = p.read_only;
         raw_disk = ap (of_some (λ (y : ImageRow). not (is_vhd y.name))) own_then ∙ sym (ap (of_some (λ (y : ImageRow). not (is_vhd y.name))) own_now) ∙ p.raw_disk;
         tracked = p.tracked;
+        untracked = p.untracked;
         out_of_range = refl;
         bad_size = p.bad_size;
         shrink = ap (of_some (λ (y : ImageRow). nat_lt larger y.size)) own_then ∙ sym (ap (of_some (λ (y : ImageRow). nat_lt larger y.size)) own_now) ∙ p.shrink;
