@@ -16,11 +16,9 @@
 //! that failed memory may be ahead of the store.
 //!
 //! **What it costs.** `start` makes two commits and two writes, and takes the memory for the bits and a row; `stop` makes one commit; `split` makes two
-//! commits, four writes and two syncs, and takes no memory, as `prepare` took it. `touch` makes one write of the sectors that have the bits, a sector
-//! for 256 MiB of the disk, and one sync, which makes last whatever was written to any volume before. Nothing is read. The extents of a new volume
-//! are the caller's choice.
-//!
-//! No line of a script begins tracking yet: of a log that stands the program marks pieces, splits it and removes it.
+//! commits, four writes and two syncs, and takes no memory: the snapshot's log and the extents are the caller's, and so is the spare row of the table.
+//! `touch` makes one write of the sectors that have the bits, a sector for 256 MiB of the disk, and one sync, which makes last whatever was written to
+//! any volume before. Nothing is read. The extents of a new volume are the caller's choice.
 //!
 //! The definitions are in `specs/`: `Making` (how the volume of a log is made, and what is read as a log), `Splitting` (how a log is split) and `Marks` (what is
 //! written into a log's volume where pieces are marked, and what lasts of it).
@@ -31,6 +29,6 @@ mod touching;
 mod tracking;
 mod volumes;
 
-pub use splitting::{prepare, split};
+pub use splitting::split;
 pub use touching::touch;
 pub use tracking::{start, stop};

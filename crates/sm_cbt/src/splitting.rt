@@ -1,10 +1,9 @@
 //! The log of a disk is split as a snapshot is taken of it: the snapshot gets a log with the bits so far, and the disk's begins anew.
 
-ghost use Rattle.std.specs.Prelude.{◌≡◌, ◌≢◌, ◌≤◌, ◌<◌, None, false, length, IfOk, IfSome, IsSome, OnErr, OnOk};
-ghost use Rattle.std.specs.Option.{option_map};
+ghost use Rattle.std.specs.Prelude.{◌≡◌, ◌≢◌, ◌≤◌, ◌<◌, None, false, length, IfSome, IsSome, OnErr, OnOk};
 ghost use Rattle.sm_base.specs.declared.names.Name.TheVariants.{Cbt};
 ghost use Rattle.vg_meta.specs.Roomy.{table_alone};
-ghost use Rattle.vg_volumes.specs.Stored.{Counts, Leaves, OnlyReads, WorksOn, held_in, sectors_in, stored};
+ghost use Rattle.vg_volumes.specs.Stored.{Counts, Leaves, WorksOn, held_in, sectors_in, stored};
 ghost use Rattle.sm_log.specs.Heads.{IsHead};
 ghost use Rattle.sm_log.specs.Logs.{begun_anew, log_of, log_sectors, on_log, split, twin_log};
 ghost use Rattle.sm_logs.specs.Held.{log_limit};
@@ -12,9 +11,8 @@ ghost use Rattle.sm_cbt.specs.Making.{MayMake, head_of};
 ghost use Rattle.sm_cbt.specs.Splitting.{FailsToSplit, IsInSplit, IsRenewed, IsRenewing, Splits};
 
 use crate::volumes::{make, write_bits, write_head};
-use sm_base::{Failed, NoMemory};
+use sm_base::Failed;
 use sm_logs::{Log, Logs};
-use std::alloc::Global;
 use uuid::Uuid;
 use vg_volumes::Store;
 
@@ -32,28 +30,6 @@ fn renew<S: Store>(store: &mut S, log: &Log) -> Result<(), Failed>
     store.sync()?;
     write_bits(store, log)?;
     store.sync()
-}
-
-/// Takes all memory that the split of a disk's log needs, for the snapshot's log with this tag: `None` exactly where the disk has none. Nothing else changes.
-pub fn prepare<S: Store>(
-    alloc: Global,
-    store: &mut S,
-    logs: &Logs,
-    disk: &Uuid,
-    twin: Uuid,
-    tag: u64,
-) -> Result<Option<Log>, NoMemory>
-    ensures reads { OnlyReads S.Store store.old store.new }
-    ensures faults { S.faults store.new ≡ S.faults store.old }
-    ensures row { OnOk result (0 < (S.table store.new).spare) }
-    ensures twin { IfOk result (λ o. o ≡ option_map (twin_log twin tag) (log_of disk.now logs.now)) }
-{
-    store.reserve_rows(1)?;
-    let Some(log) = logs.get(disk) else {
-        return Ok(None);
-    };
-    let own = log.twin(alloc, twin, tag)?;
-    Ok(Some(own))
 }
 
 /// Makes the volume of a snapshot's log, and then writes the disk's log over what its volume has.
@@ -79,8 +55,8 @@ fn split_volumes<S: Store>(
     renew(store, log)
 }
 
-/// Splits the log of a disk of which a snapshot was taken: the snapshot gets the log that [`prepare`] made for it, on these extents, and the disk's begins
-/// anew since then. The disk's log loses no bit before the snapshot's log and the new head last.
+/// Splits the log of a disk of which a snapshot was taken: the snapshot gets the log that was made for it, on these extents, and the disk's begins
+/// anew since then. The disk's log loses no bit before the snapshot's log and the new head last. It takes no memory.
 ///
 /// # Errors
 /// A call of the store failed. In memory the disk's log has begun anew, and the snapshot has none: the logs are to be read anew.

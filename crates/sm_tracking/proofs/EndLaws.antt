@@ -262,6 +262,10 @@ module _ {S : Type 0} (g : Ghosts S) (a b : S) (m : Memory) (d : List ℕ) (new 
     end_memory (Ok v) e = ap (λ (ls : List Log). with_memory ls m) e
     end_memory (Err f) e = tt
 
+    pub end_lasting : (r : Result (Unit {0}) Failed) → OnOk r (Commits g (removing d) a b) → OnOk r (g.told → IsSettled (g.area b))
+    end_lasting (Ok v) c = c.settled
+    end_lasting (Err f) c = tt
+
     pub end_steps : (r : Result (Unit {0}) Failed) → OnOk r (Commits g (removing d) a b) → OnErr r (FailsToCommit g a b) → Leaves g b (IsEitherOf (stored g a) (removing d)) → StepsOn g 1 a b
     end_steps (Ok v) c f says = commit_steps c says
     end_steps (Err e) c f says = failed_steps (removing d) f says

@@ -14,3 +14,7 @@ mod AnewLaws
 mod PlaceLaws
 mod SplitLaws
 mod SplitEnds
+mod BeginStops
+mod BetweenLaws
+mod OutcomeLaws
+mod BeginLaws

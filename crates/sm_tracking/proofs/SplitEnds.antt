@@ -36,15 +36,16 @@ use Rattle.sm_ready.specs.Framing.{IsBetweenSteps, StepsOn}
 use Rattle.sm_ready.specs.Known.{known, shape_in}
 use Rattle.sm_ready.specs.Orderly.{IsOrderly}
 use Rattle.sm_ready.specs.Ready.{IsTidy}
+use Rattle.sm_ready.specs.Stores.{StoreLeaves, content_in}
 use Rattle.sm_ready.specs.declared.memory.Memory.{Memory}
 use Rattle.sm_tracking.proofs.AnewLaws.{IsToSplit, logs_split, split_is, to_log, to_log_anew}
 use Rattle.sm_tracking.proofs.MadeLaws.{one_log, orderly_made, shape_after, tidy_made}
 use Rattle.sm_tracking.proofs.OrderLaws.{image_no_log, with_known, with_memory}
 use Rattle.sm_tracking.proofs.PlaceLaws.{its_row, keeps_at, own_in, row_there}
-use Rattle.sm_tracking.proofs.SplitLaws.{fails_tracked, splits_tracked}
+use Rattle.sm_tracking.proofs.SplitLaws.{fails_in_order, fails_tracked, splits_in_order, splits_tracked}
 use Rattle.sm_tracking.proofs.StopLaws.{no_log_apart}
 use Rattle.sm_tracking.specs.Rooms.{IsRoomFor}
-use Rattle.sm_tracking.specs.Tracking.{HasChangedLogs}
+use Rattle.sm_tracking.specs.Tracking.{HasChangedLogs, IsLogOnLeast, IsSplitInOrder}
 use Rattle.sm_tracking.specs.declared.rooms.Room.{Room}
 
 -- ---- the numbers of the tables on the way
@@ -200,3 +201,16 @@ module _ {S : Type 0} (g : Ghosts S) (a : S) (m : Memory) {u : List ℕ} {own tw
         by : (r : Result (Unit {0}) Failed) → OnOk r (Splits g twin anew es a b) → OnOk r (new ≡ target) → OnErr r (FailsToSplit g twin anew es a b) → HasChangedLogs g a m b (with_memory new m) final (r ≡ Ok tt)
         by (Ok v) k e f = splits_tracked h x k (with_memory new m) (Ok v ≡ Ok tt) (ap (λ (ls : List Log). with_known ls (known m)) (e ∙ split_is x)) (says h.told)
         by (Err z) k e f = fails_tracked h x (with_memory new m) (Err z ≡ Ok tt) (err_not_ok (Err z) tt refl) (says h.told) f
+
+    pub split_in_order : (r : Result (Unit {0}) Failed) → IsTold g a m → OnOk r (Splits g twin anew es a b) → OnErr r (FailsToSplit g twin anew es a b) → Leaves g b (IsInSplit (stored g a) twin anew es)
+        → (v : VolumeTable) (image : ℕ → List ℕ) → StoreLeaves g b v image → IsSplitInOrder (content_in (g.site a) v image) u twin.disk m.logs target
+    split_in_order r h k f says v image l = subst (IsSplitInOrder (content_in (g.site a) v image) u twin.disk m.logs) (sym (split_is x)) (by r k f)
+      where
+        by : (r : Result (Unit {0}) Failed) → OnOk r (Splits g twin anew es a b) → OnErr r (FailsToSplit g twin anew es a b) → IsSplitInOrder (content_in (g.site a) v image) u twin.disk m.logs final
+        by (Ok z) k f = splits_in_order h x k (says h.told) v image l
+        by (Err z) k f = fails_in_order h x (says h.told) f v image l
+
+    -- the twin's log lies on the extents that were given
+    pub split_least : (r : Result (Unit {0}) Failed) → es ≡ take twin.extents (free_of (g.site a).count (tab g a)) → OnOk r (Splits g twin anew es a b) → OnOk r (IsLogOnLeast (g.site a) (tab g a) twin.disk twin.extents (tab g b))
+    split_least (Ok v) least k = record { extents = es; least = record { least = least; many = sym x.long }; made = k.table }
+    split_least (Err f) least k = tt

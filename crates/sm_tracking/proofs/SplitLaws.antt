@@ -47,7 +47,7 @@ use Rattle.sm_tracking.proofs.SpelledLaws.{read_spelled, spelled_read}
 use Rattle.sm_tracking.proofs.ReadyLaws.{ready_beside, shown_beside}
 use Rattle.sm_tracking.proofs.StopLaws.{choice_kept, choice_logged, choice_shown, kept_safe, no_log_apart}
 use Rattle.sm_tracking.proofs.TwinLaws.{changed_found, else_found, twin_found}
-use Rattle.sm_tracking.specs.Tracking.{AreBetween, HasChangedLogs, IsLogBetween, IsLoggedBetween}
+use Rattle.sm_tracking.specs.Tracking.{AreBetween, HasChangedLogs, IsLogBetween, IsLoggedBetween, IsSplitInOrder}
 
 -- a log that begins anew is between that from before and that from after
 anew_between : (tag : ℕ) (own now : Log) → HasBegunAnew tag own now → IsLogBetween own (begun_anew tag own) now
@@ -101,6 +101,7 @@ module _ {S : Type 0} {g : Ghosts S} {a : S} {m : Memory} {u : List ℕ} {own tw
 
   abbrev Stops : VolumeTable → (ℕ → List ℕ) → Type 0
   Stops v image = IsKept (content_in s v image) × MayShow s (StoreLeaves g a) (disks (content_in s v image)) × IsLoggedBetween (content_in s v image) m.logs final
+      × IsSplitInOrder (content_in s v image) u twin.disk m.logs final
 
   -- each volume but these has in an image what a read gave
   abbrev AsRead : (Name → Type 0) → (ℕ → List ℕ) → Type 0
@@ -132,9 +133,14 @@ module _ {S : Type 0} {g : Ghosts S} {a : S} {m : Memory} {u : List ℕ} {own tw
         let two : Cbt w ≢ Cbt u = λ e. far (let z : w ≡ u = cc in z) in
         logged_one (logs_told h) v table image w (others (Cbt w) one) (λ p below. sector_at (Cbt w) one p below (as_read (Cbt w) (one, two) p below))
 
+    -- the disk's log stands as before, or the twin's stands
+    in_order : IsLogOf now u (log_of u m.logs) ⊎ IsLogOf now twin.disk (Some twin) → IsSplitInOrder now u twin.disk m.logs final
+    in_order order = ⊎_elim (λ same. inl same) (λ whole. inr (subst (IsLogOf now twin.disk) (sym twin_final) whole)) order
+
     -- so all of them, by the logs of the two
-    pub stops : IsLogOf now twin.disk None ⊎ IsLogOf now twin.disk (Some twin) → (o : Option Log) × IsLogOf now u o × ((o ≡ log_of u m.logs) ⊎ ((o ≡ log_of u final) ⊎ AreBetween (log_of u m.logs) (log_of u final) o)) → Stops v image
-    stops its own_log = (
+    pub stops : IsLogOf now twin.disk None ⊎ IsLogOf now twin.disk (Some twin) → (o : Option Log) × IsLogOf now u o × ((o ≡ log_of u m.logs) ⊎ ((o ≡ log_of u final) ⊎ AreBetween (log_of u m.logs) (log_of u final) o))
+        → IsLogOf now u (log_of u m.logs) ⊎ IsLogOf now twin.disk (Some twin) → Stops v image
+    stops its own_log order = (
       stop_kept,
       stop_shown,
       λ w. ⊎_elim
@@ -144,6 +150,7 @@ module _ {S : Type 0} {g : Ghosts S} {a : S} {m : Memory} {u : List ℕ} {own tw
           (λ is. subst (λ (y : List ℕ). (o : Option Log) × IsLogOf now y o × ((o ≡ log_of y m.logs) ⊎ ((o ≡ log_of y final) ⊎ AreBetween (log_of y m.logs) (log_of y final) o))) (sym is) own_log)
           (λ far. (log_of w m.logs, other_log w away far, inl refl)) (same_or_not w u))
           (same_or_not w twin.disk),
+      in_order order,
     )
 
     pub final_logged : IsLogOf now twin.disk (Some twin) → IsLogOf now u (Some anew) → IsLogged now final
@@ -180,14 +187,16 @@ module _ {S : Type 0} {g : Ghosts S} {a : S} {m : Memory} {u : List ℕ} {own tw
     }
 
     -- as a read gave it
-    pub own_still : ((p : ℕ) → p < size_of s t (Cbt u) → image (spot s.geometry.extent (extents_of (rows t (Cbt u))) p) ≡ reads (g.area a) (spot s.geometry.extent (extents_of (rows t (Cbt u))) p))
-        → (o : Option Log) × IsLogOf now u o × ((o ≡ log_of u m.logs) ⊎ ((o ≡ log_of u final) ⊎ AreBetween (log_of u m.logs) (log_of u final) o))
-    own_still same = (log_of u m.logs, logged_one (logs_told h) v table image u (others (Cbt u) (own_other g a m x)) (λ p below. sector_at (Cbt u) (own_other g a m x) p below (same p below)), inl refl)
+    pub own_before : ((p : ℕ) → p < size_of s t (Cbt u) → image (spot s.geometry.extent (extents_of (rows t (Cbt u))) p) ≡ reads (g.area a) (spot s.geometry.extent (extents_of (rows t (Cbt u))) p)) → IsLogOf now u (log_of u m.logs)
+    own_before same = logged_one (logs_told h) v table image u (others (Cbt u) (own_other g a m x)) (λ p below. sector_at (Cbt u) (own_other g a m x) p below (same p below))
+
+    pub own_still : IsLogOf now u (log_of u m.logs) → (o : Option Log) × IsLogOf now u o × ((o ≡ log_of u m.logs) ⊎ ((o ≡ log_of u final) ⊎ AreBetween (log_of u m.logs) (log_of u final) o))
+    own_still before = (log_of u m.logs, before, inl refl)
 
   -- ---- while the twin's log is made
 
   at_choice : (v : VolumeTable) (image : ℕ → List ℕ) → IsChoiceOf (stored g a) v image → Stops v image
-  at_choice v image i = (choice_kept h v image i, choice_shown h v image i, λ w. (log_of w m.logs, choice_logged h v image i w, inl refl))
+  at_choice v image i = (choice_kept h v image i, choice_shown h v image i, λ w. (log_of w m.logs, choice_logged h v image i w, inl refl), inl (choice_logged h v image i u))
 
   at_begun : (image : ℕ → List ℕ) → AsReadBeside (stored g a) es image → Stops (begun_table t twin es) image
   at_begun image beside =
@@ -195,18 +204,20 @@ module _ {S : Type 0} {g : Ghosts S} {a : S} {m : Memory} {u : List ℕ} {own tw
       let away = (away_new g a m x) (begun_table t twin es) (begun_is_table k) (begun_others k) (ap extents_of (begun_row k)) in
       let read : AsRead (λ n. n ≢ Cbt twin.disk) image = λ n other p below. beside (spot s.geometry.extent (extents_of (rows t n)) p) ((in_area g a m x) n p below) (away n other p below) in
       let both : AsRead (λ n. (n ≢ Cbt twin.disk) × (n ≢ Cbt u)) image = λ n other p below. read n other.0 p below in
+      let before = own_before (begun_table t twin es) image (apart_begun k) (begun_is_table k) (begun_others k) both (read (Cbt u) (own_other g a m x)) in
       stops (begun_table t twin es) image (apart_begun k) (begun_is_table k) (begun_others k) both
       (inl (twin_new (begun_table t twin es) image (apart_begun k) (begun_is_table k) (begun_others k) both (begun_row k)))
-      (own_still (begun_table t twin es) image (apart_begun k) (begun_is_table k) (begun_others k) both (read (Cbt u) (own_other g a m x)))
+      (own_still (begun_table t twin es) image (apart_begun k) (begun_is_table k) (begun_others k) both before) (inl before)
 
   at_made : (image : ℕ → List ℕ) → AsReadBeside (stored g a) es image → Spells twin (piece s.geometry.extent es image) → Stops (made_t g a m x) image
   at_made image beside spells =
       let o = one_log (to_log x) in
       let read : AsRead (λ n. n ≢ Cbt twin.disk) image = λ n other p below. beside (spot s.geometry.extent (extents_of (rows t n)) p) ((in_area g a m x) n p below) ((away_made g a m x) n other p below) in
       let both : AsRead (λ n. (n ≢ Cbt twin.disk) × (n ≢ Cbt u)) image = λ n other p below. read n other.0 p below in
+      let before = own_before (made_t g a m x) image o.tables o.table o.others both (read (Cbt u) (own_other g a m x)) in
       stops (made_t g a m x) image o.tables o.table o.others both
       (inr (twin_whole (made_t g a m x) image o.tables o.table o.others both o.there spells))
-      (own_still (made_t g a m x) image o.tables o.table o.others both (read (Cbt u) (own_other g a m x)))
+      (own_still (made_t g a m x) image o.tables o.table o.others both before) (inl before)
 
   -- ---- while the disk's log is written anew
 
@@ -220,9 +231,9 @@ module _ {S : Type 0} {g : Ghosts S} {a : S} {m : Memory} {u : List ℕ} {own tw
       let o = one_log (to_log x) in
       let both : AsRead (λ n. (n ≢ Cbt twin.disk) × (n ≢ Cbt u)) image = λ n other p below. i.beside (spot s.geometry.extent (extents_of (rows t n)) p) ((in_area g a m x) n p below) ((away_both g a m x) n other p below) in
       let r = own_now image i in
-      stops (made_t g a m x) image o.tables o.table o.others both
-      (inr (twin_whole (made_t g a m x) image o.tables o.table o.others both o.there i.twin_read))
-      (Some r.now, own_whole (made_t g a m x) image o.tables o.table o.others both r.now r.read, between r.now r.begins)
+      let whole = twin_whole (made_t g a m x) image o.tables o.table o.others both o.there i.twin_read in
+      stops (made_t g a m x) image o.tables o.table o.others both (inr whole)
+      (Some r.now, own_whole (made_t g a m x) image o.tables o.table o.others both r.now r.read, between r.now r.begins) (inr whole)
     where
       own_now : (image : ℕ → List ℕ) → IsSplitting (stored g a) twin anew es (made_t g a m x) image → IsReadAnew twin.tag own (piece s.geometry.extent (extents_of (rows t (Cbt u))) image)
       own_now image i =
@@ -268,6 +279,10 @@ module _ {S : Type 0} {g : Ghosts S} {a : S} {m : Memory} {u : List ℕ} {own tw
         logged = λ v image l. (left v image l).2;
       }
 
+  pub fails_in_order : {b : S} → ((v : VolumeTable) (image : ℕ → List ℕ) → g.leaves b v image → IsInSplit (stored g a) twin anew es v image) → FailsToSplit g twin anew es a b
+      → (v : VolumeTable) (image : ℕ → List ℕ) → StoreLeaves g b v image → IsSplitInOrder (content_in s v image) u twin.disk m.logs final
+  fails_in_order {b} says fails v image l = (left_split says (λ usable w i c. at_stop w i (fails.choice h.told usable w i c)) v image l).3
+
   -- ---- once it is split
 
   module _ {b : S} (k : Splits g twin anew es a b) where
@@ -298,7 +313,7 @@ module _ {S : Type 0} {g : Ghosts S} {a : S} {m : Memory} {u : List ℕ} {own tw
         (subst₂ (λ (y : Site) (v : VolumeTable). Spells anew (reads (volume_of y v (g.area b) (Cbt anew.disk)))) k.writes.site k.table (k.own_read h.told)))) in
         let twin_is = twin_whole (made_t g a m x) image o.tables o.table o.others both o.there its in
         let own_is = own_whole (made_t g a m x) image o.tables o.table o.others both anew (read_spelled own.disk own.extents (piece s.geometry.extent (extents_of (rows t (Cbt u))) image) anew refl refl mine) in
-        (stops (made_t g a m x) image o.tables o.table o.others both (inr twin_is) (Some anew, own_is, inr (inl (sym own_final))), final_logged (made_t g a m x) image o.tables o.table o.others both twin_is own_is)
+        (stops (made_t g a m x) image o.tables o.table o.others both (inr twin_is) (Some anew, own_is, inr (inl (sym own_final))) (inr twin_is), final_logged (made_t g a m x) image o.tables o.table o.others both twin_is own_is)
       where
         room_anew : log_sectors (length anew.bits) ≤ span s.geometry.extent (extents_of (rows t (Cbt u)))
         room_anew = subst (λ (n : ℕ). log_sectors n ≤ span s.geometry.extent (extents_of (rows t (Cbt u)))) (sym (length-replicate {A = Bool} (length own.bits) false)) room_own
@@ -321,3 +336,7 @@ module _ {S : Type 0} {g : Ghosts S} {a : S} {m : Memory} {u : List ℕ} {own tw
           crash = λ v image l. (let w = left v image l in (w.0, w.1));
           logged = λ v image l. (left v image l).2;
         }
+
+    pub splits_in_order : ((v : VolumeTable) (image : ℕ → List ℕ) → g.leaves b v image → IsInSplit (stored g a) twin anew es v image)
+        → (v : VolumeTable) (image : ℕ → List ℕ) → StoreLeaves g b v image → IsSplitInOrder (content_in s v image) u twin.disk m.logs final
+    splits_in_order says v image l = (left_split says (λ usable. choice_behind) v image l).3

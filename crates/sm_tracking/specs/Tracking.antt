@@ -1,7 +1,13 @@
 -- What a call that changes logs, and no disk, did to a store and to the memory beside it.
-use Rattle.std.specs.Prelude.{◌≡◌, ◌⊎◌, ℕ, ◌<◌, List, length, Option, Some}
+use Rattle.std.specs.Prelude.{◌≡◌, ◌⊎◌, ℕ, ◌<◌, true, false, List, length, Option, Some}
+use Rattle.sm_base.specs.declared.names.Name.TheVariants.{Cbt}
 use Rattle.sm_disk.specs.Held.{IsSettled}
+use Rattle.vg_extents.specs.Fits.{AreLeastFree}
+use Rattle.vg_meta.specs.Changes.{applied}
 use Rattle.vg_meta.specs.Tables.{VolumeTable}
+use Rattle.vg_meta.specs.declared.changes.Change.TheVariants.{Create, Mark}
+use Rattle.vg_meta.specs.declared.changes.Tag.TheVariants.{Fresh}
+use Rattle.vg_volumes.specs.Sites.{Site}
 use Rattle.vg_volumes.specs.declared.stores.Store.{Ghosts}
 use Rattle.sm_log.specs.Logs.{Log, bit, log_of}
 use Rattle.sm_standing.specs.Contents.{Content}
@@ -30,6 +36,22 @@ AreBetween _ _ _ = ⊥
 -- of each disk a content has the log from before, the one from after, or one between
 abbrev pub IsLoggedBetween : Content → List Log → List Log → Type 0
 IsLoggedBetween c old new = (u : List ℕ) → (o : Option Log) × IsLogOf c u o × ((o ≡ log_of u old) ⊎ ((o ≡ log_of u new) ⊎ AreBetween (log_of u old) (log_of u new) o))
+
+-- of what a stop leaves of a split: the disk's log is the one from before, or the snapshot's, the twin's, stands
+abbrev pub IsSplitInOrder : Content → List ℕ → List ℕ → List Log → List Log → Type 0
+IsSplitInOrder c u twin old new = IsLogOf c u (log_of u old) ⊎ IsLogOf c twin (log_of twin new)
+
+-- ---- where a log lies
+
+-- the table with the volume of a disk's log, made as new, and then not new
+abbrev pub table_logged : VolumeTable → List ℕ → List ℕ → VolumeTable
+table_logged t u extents = applied (applied t (Create (Cbt u) true extents)) (Mark (Cbt u) Fresh false)
+
+-- the table has the volume of a disk's log beside those from before, on so many extents that were free: the least of them, rising
+pub record IsLogOnLeast (s : Site) (t : VolumeTable) (u : List ℕ) (count : ℕ) (next : VolumeTable) : Type 0 where
+  pub extents : List ℕ
+  pub least : AreLeastFree s.count count t extents
+  pub made : next ≡ table_logged t u extents
 
 -- ---- a call
 

@@ -1,6 +1,7 @@
 //! Tracking of a disk ends.
 
 ghost use Rattle.std.specs.Prelude.{◌≡◌, IsSome, Ok, OnErr, OnOk};
+ghost use Rattle.sm_disk.specs.Held.{IsSettled};
 ghost use Rattle.sm_log.specs.Logs.{log_of, without_log};
 ghost use Rattle.sm_machine.specs.Tracking.{ended};
 ghost use Rattle.vg_volumes.specs.Stored.{Counts};
@@ -15,7 +16,7 @@ use sm_ready::Memory;
 use uuid::Uuid;
 use vg_volumes::Store;
 
-/// Removes the log of a disk, by one commit.
+/// Removes the log of a disk, by one commit. Where it succeeded nothing is pending.
 ///
 /// # Errors
 /// The commit failed: memory is as it was, and a stop leaves the log or none.
@@ -28,6 +29,7 @@ pub fn end<S: Store>(store: &mut S, memory: &mut Memory, disk: &Uuid) -> Result<
     ensures kept { OnErr result (memory.new ≡ memory.old) }
     ensures session_still { OnOk result (IsBetweenSteps S.Store store.new memory.new) }
     ensures shape { OnOk result (store_shape S.Store store.new memory.new ≡ ended (store_shape S.Store store.old memory.old) disk.now) }
+    ensures lasting { OnOk result (S.told → IsSettled (S.area store.new)) }
     ensures removed { S.told → IsReadyStore S.Store store.old memory.old
         → HasChangedLogs S.Store store.old memory.old store.new memory.new (without_log disk.now memory.old.logs) (result ≡ Ok tt) }
 {

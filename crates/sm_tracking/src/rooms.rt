@@ -12,14 +12,11 @@ ghost use Rattle.vg_meta.specs.Taken.{IsMarked};
 ghost use Rattle.sm_tracking.specs.Rooms.{IsRoomFor};
 
 use sm_base::NoMemory;
-use sm_logs::Log;
+use sm_logs::{LOG_LIMIT, Log};
 use sm_ready::Memory;
 use std::alloc::Global;
 use uuid::Uuid;
 use vg_meta::{Table, Volume};
-
-/// The most logs that memory has places for.
-const LOG_LIMIT: usize = 500;
 
 /// What the split of a disk's log takes: the snapshot's log, a mark for each extent of the group, and places for the extents of the log's volume.
 #[derive(Drop)]
