@@ -2,7 +2,7 @@
 -- table that is left.
 use Rattle.std.proofs.Common.{◌≡◌, ℕ, List, [], ◌∷◌, Option, None, Some, refl, sym, ap, ap₂, ◌∙◌, subst, subst₂, arith}
 use Rattle.std.proofs.lemmas.Option.{none-some}
-use Rattle.sm_disk.specs.Held.{Held, IsSettled}
+use Rattle.sm_disk.specs.Held.{Held, IsSettled, reads}
 use Rattle.sm_base.specs.declared.faults.Place.{Place}
 use Rattle.common_laws.specs.Lists.{first_some}
 use Rattle.vg_meta.specs.Roomy.{table_alone}
@@ -10,6 +10,7 @@ use Rattle.vg_meta.specs.Tables.{IsTable, VolumeTable}
 use Rattle.vg_volumes.specs.Sites.{Site}
 use Rattle.vg_volumes.specs.Stored.{Stored, stored}
 use Rattle.vg_volumes.specs.declared.stores.Store.{Ghosts}
+use Rattle.sm_machine.specs.Shapes.{Shape}
 use Rattle.sm_machine.specs.Tracking.{AreGoodLogs}
 use Rattle.sm_standing.specs.Checks.{first_fault}
 use Rattle.sm_standing.specs.Contents.{Content}
@@ -19,6 +20,7 @@ use Rattle.sm_standing.specs.Keeping.{HoldsWell}
 use Rattle.sm_standing.specs.LogChecks.{IsKeptWithLogs, first_place, log_fault}
 use Rattle.sm_standing.specs.Logs.{logs}
 use Rattle.sm_standing.specs.Opened.{applied_all, opened, undone}
+use Rattle.sm_standing.specs.Shapes.{shape}
 use Rattle.sm_standing.specs.Standing.{disks}
 use Rattle.sm_standing.specs.Unfolded.{unfolded}
 use Rattle.sm_standing.proofs.AreaLaws.{disks_there, kept_there}
@@ -26,11 +28,13 @@ use Rattle.sm_standing.proofs.LogPassLaws.{logs_stay, passes_still}
 use Rattle.sm_log_rows.proofs.ContentLaws.{disks_apart, logs_then, pass_then, sound_apart, well_apart}
 use Rattle.sm_log_rows.proofs.DroppedLaws.{IsDroppedTo, some_dropped}
 use Rattle.vhd_chain.specs.Reading.{AllAreTrue}
+use Rattle.sm_ready.proofs.StateLaws.{law_shape}
 use Rattle.sm_ready.specs.Known.{known, shape_in}
 use Rattle.sm_ready.specs.Orderly.{IsOrderly}
-use Rattle.sm_ready.specs.Ready.{IsReady}
+use Rattle.sm_ready.specs.Ready.{HasNoStrayLog, IsReady}
 use Rattle.sm_ready.specs.Repairs.{IsSame, content_of}
 use Rattle.sm_ready.specs.Runs.{AllMay}
+use Rattle.sm_ready.specs.Sessions.{IsOrderlyStore, IsReadyStore, IsTidyStore}
 use Rattle.sm_ready.specs.Stores.{content_in, store_content}
 use Rattle.sm_ready.specs.declared.memory.Memory.{Memory}
 use Rattle.sm_checks.specs.Links.{IsLinkRight}
@@ -197,3 +201,13 @@ module _ {S : Type 0} {g : Ghosts S} {a b d : S} (r : StandsAs g a b) (part : Ma
     true_images = λ told settled.
         subst (λ (x : Stored). AllAreTrue (record { site = x.site; table = undone (unfolded (unleafed x.table)); area = x.area }) m.tree.rows) (sym (stored_dropped told (was told))) (o.true_images told (was told));
   }
+
+-- ---- once all is repaired
+
+-- memory has the logs from before
+pub logs_behind : {S : Type 0} (g : Ghosts S) (a e : S) (m : Memory) → g.site e ≡ g.site a → IsOrderlyStore g e m → IsTidyStore g e m → HasNoStrayLog (known m) → IsReadyStore g e m
+    → IsRepairedFrom (store_content g a) (content_in (g.site a) (table_alone (g.table e)) (reads (g.area e))) → m.logs ≡ logs (store_content g a)
+unfolding shape shape_in
+logs_behind g a e m site orderly tidy no_stray ready repaired =
+    sym (ap (λ (σ : Shape). σ.logs) (law_shape (g.site e) (table_alone (g.table e)) (g.area e) (known m) tidy.none_new no_stray orderly ready))
+    ∙ ap (λ (s : Site). logs (content_in s (table_alone (g.table e)) (reads (g.area e)))) site ∙ repaired.same_logs

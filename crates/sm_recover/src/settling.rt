@@ -12,6 +12,7 @@ ghost use Rattle.sm_base.specs.declared.faults.OpenFault.TheVariants as fault;
 ghost use Rattle.sm_standing.specs.Checks.{first_fault};
 ghost use Rattle.sm_standing.specs.Dropped.{dropped, opening};
 ghost use Rattle.sm_standing.specs.LogChecks.{first_place};
+ghost use Rattle.sm_standing.specs.Logs.{logs};
 ghost use Rattle.sm_machine.specs.Tracking.{AreGoodLogs};
 ghost use Rattle.sm_ready.specs.Does.{store_shape};
 ghost use Rattle.sm_ready.specs.Ready.{HasNoStrayLog};
@@ -93,6 +94,7 @@ pub fn settle<S: Store>(alloc: Global, store: &mut S) -> Result<Memory, OpenFaul
     ensures ready { IfOk result (λ m. S.told → HoldsWell (store_content S.Store store.old) → IsReadyStore S.Store store.new m) }
     ensures disks { OnOk result (S.told → HoldsWell (store_content S.Store store.old) → disks (store_content S.Store store.new)
         ≡ disks (store_content S.Store store.old)) }
+    ensures logs { IfOk result (λ m. S.told → HoldsWell (store_content S.Store store.old) → m.logs ≡ logs (store_content S.Store store.old)) }
     ensures opened { IfOk result (λ m. S.told → HoldsWell (store_content S.Store store.old)
         → shape_in (S.site store.new) (table_alone (S.table store.new)) (known m) ≡ opening (store_content S.Store store.old)) }
     ensures crash { Leaves S.Store store.new (λ t image. S.leaves store.old t image ⊎ MayBeRepairedFrom (store_content S.Store store.old) (content_in (S.site store.old) t image)) }

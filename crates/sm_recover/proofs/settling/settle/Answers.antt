@@ -1,5 +1,6 @@
 use Rattle.std.proofs.Common.{inr, ap, sym, subst₂, ◌∙◌, arith, Result, Ok, Err, OnErr}
 use Rattle.sm_disk.proofs.HeldLaws.{Keeps-then}
+use Rattle.sm_disk.specs.Held.{reads}
 use Rattle.vg_meta.specs.Roomy.{table_alone}
 use Rattle.vg_meta.specs.Tables.{VolumeTable}
 use Rattle.vg_volumes.specs.Sites.{Site}
@@ -7,7 +8,7 @@ use Rattle.sm_standing.specs.Dropped.{drop_changes}
 use Rattle.sm_standing.specs.Opened.{cleaned, ended, undone}
 use Rattle.sm_ready.specs.Runs.{AllMay}
 use Rattle.sm_ready.specs.Stores.{store_content}
-use Rattle.sm_recover.proofs.DroppedThen.{few_dropped, few_dropping, left_dropping, left_mending, opened_dropped, opened_then, place_dropped, place_passes, settled_dropped, shown_dropped, table_dropped, well_dropped}
+use Rattle.sm_recover.proofs.DroppedThen.{few_dropped, few_dropping, left_dropping, left_mending, logs_behind, opened_dropped, opened_then, place_dropped, place_passes, settled_dropped, shown_dropped, site_dropped, table_dropped, well_dropped}
 use Rattle.sm_recover.proofs.TakenOver.{one_table, stands_behind}
 use Rattle.sm_recover.proofs.settling.settle.Goals as goal
 
@@ -92,6 +93,17 @@ returns-clause-disks g c = λ told well.
     let r = stands_behind c.checked_with_room.ensures.reads c.in_ok-take_over.ensures.stands in
     c.in-Ok-mend.ensures.disks told (well_dropped r c.drop_logs.ensures.part c.in-Ok.ensures.all told (c.requires.settled told) k.openable.table (k.sound told) well)
     ∙ shown_dropped r c.drop_logs.ensures.part c.in-Ok.ensures.all told (c.requires.settled told) k.openable.table (k.sound told)
+
+pub returns-clause-logs : goal.returns-clause-logs
+returns-clause-logs g c = λ told well.
+    let k = c.in_ok-memory.ensures in
+    let r = stands_behind c.checked_with_room.ensures.reads c.in_ok-take_over.ensures.stands in
+    let m = c.in-Ok-mend.ensures in
+    let e = c.mend.new.store in
+    let left = left_mending r c.drop_logs.ensures.part c.in-Ok.ensures.all told (c.requires.settled told) k.openable.table (k.sound told)
+    (c.mend.ensures.crash told (table_alone (g.S.Store.table e)) (reads (g.S.Store.area e)) (g.met.S.Store.leaves_read e told m.usable_still)) in
+    logs_behind g.S.Store c.args.store.now e c.mend.new.memory (c.mend.ensures.site ∙ site_dropped r c.drop_logs.ensures.part c.in-Ok.ensures.all) m.orderly m.tidy m.no_stray_log
+    (m.ready told (well_dropped r c.drop_logs.ensures.part c.in-Ok.ensures.all told (c.requires.settled told) k.openable.table (k.sound told) well)) (left.repaired well)
 
 pub returns-clause-opened : goal.returns-clause-opened
 returns-clause-opened g c = λ told well.
