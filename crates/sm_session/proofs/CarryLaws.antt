@@ -14,7 +14,7 @@ use Rattle.sm_machine.specs.declared.replies.Reply.{Reply}
 use Rattle.sm_machine.specs.declared.replies.Reply.TheVariants.{No}
 use Rattle.sm_ready.specs.Taken.{StoreTakes}
 use Rattle.sm_ready.specs.declared.memory.Memory.{Memory}
-use Rattle.sm_session.specs.Carrying.{WritesOnlyIts, is_guests, most_commits}
+use Rattle.sm_session.specs.Carrying.{WritesOnlyIts, is_guests, is_of_logs, most_commits}
 use Rattle.vg_meta.specs.Tables.{VolumeTable}
 use Rattle.vg_volumes.specs.Stored.{IsChoiceOf, OnlyReads, Stays, stored}
 use Rattle.sm_disk.proofs.ReachesLaws.{Reaches-none}
@@ -42,21 +42,23 @@ not_guests (command.Read u sector count) guests no_attach no_detach no_write no_
 not_guests (command.Flush u) guests no_attach no_detach no_write no_fill no_read no_flush = no_flush u refl
 not_guests _ guests no_attach no_detach no_write no_fill no_read no_flush = true≢false (sym guests)
 
--- a command of no other kind is a guest's
+-- a command of no other kind, and not of logs alone, is a guest's
 pub others_guests : (c : Command) → ((u : List ℕ) (size : ℕ) (raw : Bool) (label : List ℕ) → c ≡ command.Create u size raw label → ⊥) → ((u : List ℕ) → c ≡ command.Delete u → ⊥) → ((u text : List ℕ) → c ≡ command.Label u text → ⊥)
     → ((u : List ℕ) (size : ℕ) → c ≡ command.Resize u size → ⊥) → ((u twin : List ℕ) → c ≡ command.Snapshot u twin → ⊥)
-    → ((u twin : List ℕ) → c ≡ command.Clone u twin → ⊥) → (c ≡ command.List → ⊥) → (c ≡ command.Stat → ⊥) → (c ≡ command.Gc → ⊥) → is_guests c ≡ true
-unfolding is_guests
-others_guests (command.Create u size raw label) no_create no_delete no_label no_resize no_snapshot no_clone no_list no_stat no_gc = absurd (no_create u size raw label refl)
-others_guests (command.Delete u) no_create no_delete no_label no_resize no_snapshot no_clone no_list no_stat no_gc = absurd (no_delete u refl)
-others_guests (command.Label u text) no_create no_delete no_label no_resize no_snapshot no_clone no_list no_stat no_gc = absurd (no_label u text refl)
-others_guests (command.Resize u size) no_create no_delete no_label no_resize no_snapshot no_clone no_list no_stat no_gc = absurd (no_resize u size refl)
-others_guests (command.Snapshot u twin) no_create no_delete no_label no_resize no_snapshot no_clone no_list no_stat no_gc = absurd (no_snapshot u twin refl)
-others_guests (command.Clone u twin) no_create no_delete no_label no_resize no_snapshot no_clone no_list no_stat no_gc = absurd (no_clone u twin refl)
-others_guests command.List no_create no_delete no_label no_resize no_snapshot no_clone no_list no_stat no_gc = absurd (no_list refl)
-others_guests command.Stat no_create no_delete no_label no_resize no_snapshot no_clone no_list no_stat no_gc = absurd (no_stat refl)
-others_guests command.Gc no_create no_delete no_label no_resize no_snapshot no_clone no_list no_stat no_gc = absurd (no_gc refl)
-others_guests _ no_create no_delete no_label no_resize no_snapshot no_clone no_list no_stat no_gc = refl
+    → ((u twin : List ℕ) → c ≡ command.Clone u twin → ⊥) → (c ≡ command.List → ⊥) → (c ≡ command.Stat → ⊥) → (c ≡ command.Gc → ⊥) → is_of_logs c ≡ false → is_guests c ≡ true
+unfolding is_guests is_of_logs
+others_guests (command.Create u size raw label) no_create no_delete no_label no_resize no_snapshot no_clone no_list no_stat no_gc no_logs = absurd (no_create u size raw label refl)
+others_guests (command.Delete u) no_create no_delete no_label no_resize no_snapshot no_clone no_list no_stat no_gc no_logs = absurd (no_delete u refl)
+others_guests (command.Label u text) no_create no_delete no_label no_resize no_snapshot no_clone no_list no_stat no_gc no_logs = absurd (no_label u text refl)
+others_guests (command.Resize u size) no_create no_delete no_label no_resize no_snapshot no_clone no_list no_stat no_gc no_logs = absurd (no_resize u size refl)
+others_guests (command.Snapshot u twin) no_create no_delete no_label no_resize no_snapshot no_clone no_list no_stat no_gc no_logs = absurd (no_snapshot u twin refl)
+others_guests (command.Clone u twin) no_create no_delete no_label no_resize no_snapshot no_clone no_list no_stat no_gc no_logs = absurd (no_clone u twin refl)
+others_guests command.List no_create no_delete no_label no_resize no_snapshot no_clone no_list no_stat no_gc no_logs = absurd (no_list refl)
+others_guests command.Stat no_create no_delete no_label no_resize no_snapshot no_clone no_list no_stat no_gc no_logs = absurd (no_stat refl)
+others_guests command.Gc no_create no_delete no_label no_resize no_snapshot no_clone no_list no_stat no_gc no_logs = absurd (no_gc refl)
+others_guests (command.Track u on) no_create no_delete no_label no_resize no_snapshot no_clone no_list no_stat no_gc no_logs = absurd (true≢false no_logs)
+others_guests (command.Changed u n) no_create no_delete no_label no_resize no_snapshot no_clone no_list no_stat no_gc no_logs = absurd (true≢false no_logs)
+others_guests _ no_create no_delete no_label no_resize no_snapshot no_clone no_list no_stat no_gc no_logs = refl
 
 -- ---- want of memory
 

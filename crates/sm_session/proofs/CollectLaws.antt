@@ -14,7 +14,7 @@ use Rattle.sm_base.specs.declared.refusals.Refusal.TheVariants.{NoSpace}
 use Rattle.sm_machine.specs.Collector.{IsLess, Pair, blocked, clean_or, collected, copy_or, debt, fits, is_garbage, is_loose, leaves, lives, next_block, next_step, pairs, plan_copy, plan_idle, plan_running, relink_or, table_of, target}
 use Rattle.sm_machine.specs.Commits.{gives_up, is_given_up, own_commits, plan_commits}
 use Rattle.sm_machine.specs.Laws.{is_working}
-use Rattle.sm_machine.specs.Refusals.{refusal, is_reserved, is_unknown, is_taken, is_in_use, is_not_attached, is_read_only, is_raw_disk, is_tracked, is_out_of_range, is_bad_size, is_shrink, is_deep, is_too_many, is_spent, lacks_space, need, named, new_uuid, forked}
+use Rattle.sm_machine.specs.Refusals.{refusal, is_reserved, is_unknown, is_taken, is_in_use, is_not_attached, is_read_only, is_raw_disk, is_tracked, is_untracked, is_out_of_range, is_bad_size, is_shrink, is_deep, is_too_many, is_spent, lacks_space, need, named, new_uuid, forked}
 use Rattle.sm_machine.specs.Shapes.{ImageRow, Shape, children, free, thin_in, top}
 use Rattle.sm_machine.specs.Steps.{Outcome, State, accepted, disks_next, reply_to, shape_after, shape_next, step}
 use Rattle.sm_machine.specs.WellFormed.{IsWellFormed}
@@ -26,7 +26,7 @@ use Rattle.sm_run.specs.Runs.{begins}
 
 -- no cause refuses a step of the collector
 pub never_refused : (s : Shape) → refusal s Gc ≡ None
-unfolding refusal is_reserved is_unknown is_taken is_in_use is_not_attached is_read_only is_raw_disk is_tracked is_out_of_range is_bad_size is_shrink is_deep is_too_many is_spent lacks_space need named new_uuid forked
+unfolding refusal is_reserved is_unknown is_taken is_in_use is_not_attached is_read_only is_raw_disk is_tracked is_untracked is_out_of_range is_bad_size is_shrink is_deep is_too_many is_spent lacks_space need named new_uuid forked
 never_refused s = ap (λ b. first_some (given b (NoSpace 0 (free s)) ∷ [])) (le-ltb (free s) 0 (omega arith))
 
 -- ---- the operation of a step

@@ -3,5 +3,11 @@ pub mod CollectLaws
 pub mod GoodLaws
 pub mod LoggedLaws
 pub mod PassLaws
+pub mod ShownLaws
 pub mod SnapshotLaws
+pub mod TagLaws
+pub mod TellingLaws
+pub mod ToldLaws
+pub mod TrackLaws
+pub mod TruthLaws
 pub mod UntrackLaws

@@ -1,5 +1,5 @@
 -- A step between marks and the end of a log: what they make together.
-use Rattle.std.proofs.Common.{◌≡◌, ◌⊎◌, inl, inr, ⊎_elim, ℕ, zero, suc, eq-eqb, ◌+◌, ◌-◌, ◌/◌, true, false, List, length, Option, Some, None, Result, IfOk, Ok, Err, refl, sym, ap, ap₂, ◌∙◌, subst, arith}
+use Rattle.std.proofs.Common.{◌≡◌, ◌⊎◌, inl, inr, ⊎_elim, ℕ, zero, suc, eq-eqb, ◌+◌, ◌-◌, ◌/◌, Bool, true, false, List, length, Option, Some, None, Result, IfOk, Ok, Err, refl, sym, ap, ap₂, ◌∙◌, subst, arith}
 use Rattle.std.specs.Prelude.{IfSome, ◌==◌, ◌*◌, ◌≤◌}
 use Rattle.std.proofs.Math.Logic.{∥∥₁_elim}
 use Rattle.std.proofs.Props.{props}
@@ -24,7 +24,7 @@ use Rattle.sm_machine.specs.declared.replies.Reply.TheVariants.{No}
 use Rattle.sm_machine.specs.Commits.{commits, gives_up, is_given_up, own_commits}
 use Rattle.sm_machine.specs.Disks.{Disk, sector_bytes}
 use Rattle.sm_machine.specs.declared.replies.Reply.TheVariants as reply
-use Rattle.sm_machine.specs.Refusals.{refusal, forked, images_needed, is_bad_size, is_deep, is_in_use, is_not_attached, is_out_of_range, is_outside, is_raw_disk, is_read_only, is_reserved, is_shrink, is_spent, is_taken, is_too_many, is_tracked, is_unknown, lacks_space, named, need, new_uuid, of_log}
+use Rattle.sm_machine.specs.Refusals.{refusal, forked, images_needed, is_bad_size, is_deep, is_in_use, is_not_attached, is_out_of_range, is_outside, is_raw_disk, is_read_only, is_reserved, is_shrink, is_spent, is_taken, is_too_many, is_tracked, is_unknown, is_untracked, lacks_space, named, need, new_uuid, of_log}
 use Rattle.sm_machine.specs.Runs.{is_accepted, takes_memory}
 use Rattle.sm_machine.specs.Shapes.{Shape, free, risen}
 use Rattle.sm_machine.specs.Steps.{Outcome, State, accepted, disks_next, reply_to, shape_after, shape_next, step}
@@ -58,9 +58,15 @@ use Rattle.sm_base.specs.declared.names.Name.TheVariants.{Cbt}
 use Rattle.vg_layout.specs.Places.{record_extents}
 use Rattle.vg_volumes.specs.Stored.{Stays, WorksOn}
 use Rattle.sm_ready.specs.Does.{store_shape}
-use Rattle.sm_session.specs.Carrying.{MarksAndWritesIts, MarksLast, WritesOnlyIts}
+use Rattle.sm_session.specs.Carrying.{MarksAndWritesIts, MarksLast, WritesOnlyIts, is_of_logs}
 use Rattle.sm_session.specs.Stepped.{StoreSteps}
-use Rattle.sm_session.proofs.PassLaws.{IsUnsplit, kept_passes, step_passes}
+use Rattle.sm_session.specs.Truth.{AreTold, LeavesTold, StandIn}
+use Rattle.sm_session.proofs.PassLaws.{CarriesLogs, kept_passes, step_passes}
+use Rattle.sm_session.proofs.ShownLaws.{IsWriteOf}
+use Rattle.sm_session.proofs.TellingLaws.{now_told}
+use Rattle.sm_session.proofs.ToldLaws.{delete_still, grown_told, marked_told, still_told}
+use Rattle.sm_session.proofs.TruthLaws.{Grow, logged_in, without_left}
+use Rattle.sm_machine.proofs.TrackedDisks.{writes}
 use Rattle.sm_tracking.specs.Tracking.{HasChangedLogs, IsLoggedBetween}
 
 -- ---- the machine's step
@@ -78,27 +84,29 @@ none_split u twin tag logs o e = ap (λ (x : Option Log). split_of u twin tag x 
 
 -- commands that do nothing to logs, where a snapshot is of a disk without one
 logs_same : (s : Shape) (c : Command) → ((u : List ℕ) (sector : ℕ) (bytes : List ℕ) → c ≡ command.Write u sector bytes → ⊥) → ((u : List ℕ) (sector count byte : ℕ) → c ≡ command.Fill u sector count byte → ⊥) → ((u : List ℕ) → c ≡ command.Delete u → ⊥)
-    → ((u twin : List ℕ) → c ≡ command.Snapshot u twin → log_of u s.logs ≡ None) → (logs_after s c ≡ s.logs) × (log_commits s c ≡ 0)
+    → ((u twin : List ℕ) → c ≡ command.Snapshot u twin → log_of u s.logs ≡ None) → ((u : List ℕ) (on : Bool) → c ≡ command.Track u on → ⊥) → (logs_after s c ≡ s.logs) × (log_commits s c ≡ 0)
 unfolding logs_after log_commits
-logs_same s (command.Create u size raw label) no_write no_fill no_delete none = (refl, refl)
-logs_same s (command.Delete u) no_write no_fill no_delete none = absurd (no_delete u refl)
-logs_same s (command.Attach u mode) no_write no_fill no_delete none = (refl, refl)
-logs_same s (command.Detach u) no_write no_fill no_delete none = (refl, refl)
-logs_same s (command.Snapshot u twin) no_write no_fill no_delete none = (none_split u twin s.sequence s.logs (log_of u s.logs) (none u twin refl), ap (of_log (λ (l : Log). 2)) (none u twin refl))
-logs_same s (command.Clone u twin) no_write no_fill no_delete none = (refl, refl)
-logs_same s (command.Resize u size) no_write no_fill no_delete none = (refl, refl)
-logs_same s (command.Label u text) no_write no_fill no_delete none = (refl, refl)
-logs_same s (command.Write u sector bytes) no_write no_fill no_delete none = absurd (no_write u sector bytes refl)
-logs_same s (command.Fill u sector count byte) no_write no_fill no_delete none = absurd (no_fill u sector count byte refl)
-logs_same s (command.Read u sector count) no_write no_fill no_delete none = (refl, refl)
-logs_same s (command.Flush u) no_write no_fill no_delete none = (refl, refl)
-logs_same s command.Gc no_write no_fill no_delete none = (refl, refl)
-logs_same s command.List no_write no_fill no_delete none = (refl, refl)
-logs_same s command.Stat no_write no_fill no_delete none = (refl, refl)
+logs_same s (command.Create u size raw label) no_write no_fill no_delete none no_track = (refl, refl)
+logs_same s (command.Delete u) no_write no_fill no_delete none no_track = absurd (no_delete u refl)
+logs_same s (command.Attach u mode) no_write no_fill no_delete none no_track = (refl, refl)
+logs_same s (command.Detach u) no_write no_fill no_delete none no_track = (refl, refl)
+logs_same s (command.Snapshot u twin) no_write no_fill no_delete none no_track = (none_split u twin s.sequence s.logs (log_of u s.logs) (none u twin refl), ap (of_log (λ (l : Log). 2)) (none u twin refl))
+logs_same s (command.Clone u twin) no_write no_fill no_delete none no_track = (refl, refl)
+logs_same s (command.Resize u size) no_write no_fill no_delete none no_track = (refl, refl)
+logs_same s (command.Label u text) no_write no_fill no_delete none no_track = (refl, refl)
+logs_same s (command.Write u sector bytes) no_write no_fill no_delete none no_track = absurd (no_write u sector bytes refl)
+logs_same s (command.Fill u sector count byte) no_write no_fill no_delete none no_track = absurd (no_fill u sector count byte refl)
+logs_same s (command.Read u sector count) no_write no_fill no_delete none no_track = (refl, refl)
+logs_same s (command.Flush u) no_write no_fill no_delete none no_track = (refl, refl)
+logs_same s command.Gc no_write no_fill no_delete none no_track = (refl, refl)
+logs_same s command.List no_write no_fill no_delete none no_track = (refl, refl)
+logs_same s command.Stat no_write no_fill no_delete none no_track = (refl, refl)
+logs_same s (command.Track u on) no_write no_fill no_delete none no_track = absurd (no_track u on refl)
+logs_same s (command.Changed u n) no_write no_fill no_delete none no_track = (refl, refl)
 
 pub step_same : (σ : State) (c : Command) → ((u : List ℕ) (sector : ℕ) (bytes : List ℕ) → c ≡ command.Write u sector bytes → ⊥) → ((u : List ℕ) (sector count byte : ℕ) → c ≡ command.Fill u sector count byte → ⊥) → ((u : List ℕ) → c ≡ command.Delete u → ⊥)
-    → ((u twin : List ℕ) → c ≡ command.Snapshot u twin → log_of u σ.shape.logs ≡ None) → tracked_step σ c ≡ step σ c
-step_same σ c no_write no_fill no_delete none = let e = logs_same σ.shape c no_write no_fill no_delete none in unlogged_is_step σ c e.0 e.1
+    → ((u twin : List ℕ) → c ≡ command.Snapshot u twin → log_of u σ.shape.logs ≡ None) → ((u : List ℕ) (on : Bool) → c ≡ command.Track u on → ⊥) → tracked_step σ c ≡ step σ c
+step_same σ c no_write no_fill no_delete none no_track = let e = logs_same σ.shape c no_write no_fill no_delete none no_track in unlogged_is_step σ c e.0 e.1
 
 -- ---- marks, and then a write
 
@@ -124,16 +132,12 @@ fill_next : (s : Shape) (u : List ℕ) (sector count byte : ℕ) → shape_next 
 unfolding shape_next shape_after is_given_up gives_up commits own_commits logs_after log_commits
 fill_next s u sector count byte = sym (numbered (shape_next (marked_shape u sector count s) (command.Fill u sector count byte)) _ _ _ _ (twice_risen s.sequence) (marked_others u sector count s))
 
--- so many sectors of a disk are written from one on
-abbrev pub IsWriteOf : Command → List ℕ → ℕ → ℕ → Type 0
-IsWriteOf c u sector count = ((bytes : List ℕ) × (c ≡ command.Write u sector bytes) × (count ≡ length bytes / sector_bytes)) ⊎ ((byte : ℕ) × (c ≡ command.Fill u sector count byte))
-
 write_passes : (s : Shape) (u : List ℕ) (sector : ℕ) (bytes : List ℕ) (logs : List Log) → refusal s (command.Write u sector bytes) ≡ None → refusal (record s { logs = logs }) (command.Write u sector bytes) ≡ None
-unfolding refusal is_reserved is_unknown is_taken is_in_use is_not_attached is_read_only is_raw_disk is_tracked is_out_of_range is_bad_size is_shrink is_deep is_too_many is_spent lacks_space need named new_uuid forked images_needed free
+unfolding refusal is_reserved is_unknown is_taken is_in_use is_not_attached is_read_only is_raw_disk is_tracked is_untracked is_out_of_range is_bad_size is_shrink is_deep is_too_many is_spent lacks_space need named new_uuid forked images_needed free
 write_passes s u sector bytes logs h = h
 
 fill_passes : (s : Shape) (u : List ℕ) (sector count byte : ℕ) (logs : List Log) → refusal s (command.Fill u sector count byte) ≡ None → refusal (record s { logs = logs }) (command.Fill u sector count byte) ≡ None
-unfolding refusal is_reserved is_unknown is_taken is_in_use is_not_attached is_read_only is_raw_disk is_tracked is_out_of_range is_bad_size is_shrink is_deep is_too_many is_spent lacks_space need named new_uuid forked images_needed free
+unfolding refusal is_reserved is_unknown is_taken is_in_use is_not_attached is_read_only is_raw_disk is_tracked is_untracked is_out_of_range is_bad_size is_shrink is_deep is_too_many is_spent lacks_space need named new_uuid forked images_needed free
 fill_passes s u sector count byte logs h = h
 
 -- a step behind marks
@@ -234,14 +238,23 @@ between_more P Q more old new ds (inr already) = inr (record { faces = already.f
 pub logs_behind : (σ : State) (c : Command) → refusal σ.shape c ≡ None → (tracked_step σ c).after.shape.logs ≡ logs_after σ.shape c
 logs_behind σ c passes = ap (λ (o : Outcome). o.after.shape.logs) (tracked_behind σ c passes)
 
--- a write takes no snapshot
-pub write_unsplit : {u : List ℕ} {sector count : ℕ} (c : Command) (s : Shape) → IsWriteOf c u sector count → IsUnsplit s c
-write_unsplit {u} {sector} c s (inl w) passes v twin e = absurd (let z : command.Write u sector w.0 ≡ command.Snapshot v twin = sym w.1 ∙ e in cc)
-write_unsplit {u} {sector} {count} c s (inr w) passes v twin e = absurd (let z : command.Fill u sector count w.0 ≡ command.Snapshot v twin = sym w.1 ∙ e in cc)
+-- a write carries each log along
+pub write_carries : {u : List ℕ} {sector count : ℕ} (c : Command) (s : Shape) → IsWriteOf c u sector count → CarriesLogs s c
+write_carries {u} {sector} c s (inl w) passes = (
+  λ v twin e. absurd (let z : command.Write u sector w.0 ≡ command.Snapshot v twin = sym w.1 ∙ e in cc),
+  λ v on e. (let z : command.Write u sector w.0 ≡ command.Track v on = sym w.1 ∙ e in cc),
+)
+write_carries {u} {sector} {count} c s (inr w) passes = (
+  λ v twin e. absurd (let z : command.Fill u sector count w.0 ≡ command.Snapshot v twin = sym w.1 ∙ e in cc),
+  λ v on e. (let z : command.Fill u sector count w.0 ≡ command.Track v on = sym w.1 ∙ e in cc),
+)
 
--- nor does a deletion
-pub delete_unsplit : (c : Command) (s : Shape) (u : List ℕ) → c ≡ command.Delete u → IsUnsplit s c
-delete_unsplit c s u is passes v twin e = absurd (let z : command.Delete u ≡ command.Snapshot v twin = sym is ∙ e in cc)
+-- and so does a deletion those of the disks that stay
+pub delete_carries : (c : Command) (s : Shape) (u : List ℕ) → c ≡ command.Delete u → CarriesLogs s c
+delete_carries c s u is passes = (
+  λ v twin e. absurd (let z : command.Delete u ≡ command.Snapshot v twin = sym is ∙ e in cc),
+  λ v on e. (let z : command.Delete u ≡ command.Track v on = sym is ∙ e in cc),
+)
 
 module _ {S : Type 0} {g : Ghosts S} {a : S} {m : Memory} (h : IsTold g a m) (good : ∥ AreGoodLogs (store_state g a m).shape ∥₁) where
   -- what a stop leaves of a command, and with which logs
@@ -253,39 +266,67 @@ module _ {S : Type 0} {g : Ghosts S} {a : S} {m : Memory} (h : IsTold g a m) (go
   Logs b c = (v : VolumeTable) (image : ℕ → List ℕ) → StoreLeaves g b v image → IsLoggedBetween (content_in (g.site a) v image) m.logs (tracked_step (store_state g a m) c).after.shape.logs
 
   -- a call that failed
-  stopped : {b : S} {most : ℕ} (n : Memory) (c : Command) (f : Failed) → StepsOn g most a b → IsUnsplit (store_state g a m).shape c → Crashes b c → Logs b c → StoreSteps g c a m b n (Err f)
-  stopped n c f steps unsplit crash logged = record { reply = tt; ready = tt; settled = tt; crash = crash; logged = logged; passes = step_passes h good c steps unsplit crash logged }
+  stopped : {b : S} {most : ℕ} (n : Memory) (c : Command) (f : Failed) → StepsOn g most a b → CarriesLogs (store_state g a m).shape c → Crashes b c → Logs b c → (AreTold (g.site a) (StoreLeaves g a) (store_state g a m).shape → LeavesTold (g.site a) (StoreLeaves g b))
+      → StoreSteps g c a m b n (Err f)
+  stopped n c f steps carries crash logged told = record {
+    reply = tt;
+    ready = tt;
+    settled = tt;
+    crash = crash;
+    logged = logged;
+    passes = step_passes h good c steps carries crash logged;
+    truthful = told;
+  }
 
   -- logs that are those from before
   pub still_logged : {b : S} (n : Memory) (c : Command) → n.logs ≡ m.logs → ((v : VolumeTable) (image : ℕ → List ℕ) → StoreLeaves g b v image → IsLogged (content_in (g.site a) v image) n.logs) → Logs b c
   still_logged n c same logged v image l u = (log_of u m.logs, subst (λ (ls : List Log). IsLogOf (content_in (g.site a) v image) u (log_of u ls)) same (logged v image l u), inl refl)
 
+  -- what a stop leaves of a command that writes no sectors, and leaves the logs
+  same_told : {b : S} (n : Memory) (c : Command) → CarriesLogs (store_state g a m).shape c → writes c ≡ false → Crashes b c → n.logs ≡ m.logs → ((v : VolumeTable) (image : ℕ → List ℕ) → StoreLeaves g b v image → IsLogged (content_in (g.site a) v image) n.logs)
+      → AreTold (g.site a) (StoreLeaves g a) (store_state g a m).shape → LeavesTold (g.site a) (StoreLeaves g b)
+  same_told {b} n c carries still crash same logged =
+      still_told h good b c carries (λ v image l. (crash v image l).1) (still_logged n c same logged) still
+      (λ _ v image left ls stand l i. subst (In l) same (logged_in (content_in (g.site a) v image) n.logs ls (logged v image left) stand l i))
+
   -- disks that a stop might have shown are between
-  shown_between : (new ds : List Disk) → MayShow (g.site a) (StoreLeaves g a) ds → IsBetween (MayShow (g.site a) (StoreLeaves g a)) (store_state g a m).disks new ds
+  pub shown_between : (new ds : List Disk) → MayShow (g.site a) (StoreLeaves g a) ds → IsBetween (MayShow (g.site a) (StoreLeaves g a)) (store_state g a m).disks new ds
   shown_between new ds may = inl (record { faces = faces_ready h ds may; sectors = λ u k bytes is. (ds, may, is) })
 
   -- a command that does nothing to logs
-  pub stepped_same : {b : S} {most : ℕ} (n : Memory) (c : Command) (r : Result Reply Failed) → StepsOn g most a b → IsUnsplit (store_state g a m).shape c → n.logs ≡ m.logs → tracked_step (store_state g a m) c ≡ step (store_state g a m) c
+  pub stepped_same : {b : S} {most : ℕ} (n : Memory) (c : Command) (r : Result Reply Failed) → StepsOn g most a b → CarriesLogs (store_state g a m).shape c → writes c ≡ false → n.logs ≡ m.logs → tracked_step (store_state g a m) c ≡ step (store_state g a m) c
       → StoreTakes g c a m b n r → StoreSteps g c a m b n r
-  stepped_same {b} n c r steps unsplit logs same t =
+  stepped_same {b} n c r steps carries still logs same t =
       let w : StoreTakesTo (tracked_step (store_state g a m) c) g c a m b n r = subst (λ (o : Outcome). StoreTakesTo o g c a m b n r) (sym same) t in
       let logged : Logs b c = still_logged n c logs w.logged in
-      record { reply = w.reply; ready = w.ready; settled = w.settled; crash = w.crash; logged = logged; passes = step_passes h good c steps unsplit w.crash logged }
+      record {
+        reply = w.reply;
+        ready = w.ready;
+        settled = w.settled;
+        crash = w.crash;
+        logged = logged;
+        passes = step_passes h good c steps carries w.crash logged;
+        truthful = same_told n c carries still w.crash logs w.logged;
+      }
 
   -- a call that failed, and left the logs
-  pub stopped_same : {b : S} {most : ℕ} (n : Memory) (c : Command) (f : Failed) → StepsOn g most a b → IsUnsplit (store_state g a m).shape c → n.logs ≡ m.logs → refusal (store_state g a m).shape c ≡ None → StoreTakes g c a m b n (Err f)
+  pub stopped_same : {b : S} {most : ℕ} (n : Memory) (c : Command) (f : Failed) → StepsOn g most a b → CarriesLogs (store_state g a m).shape c → writes c ≡ false → n.logs ≡ m.logs → refusal (store_state g a m).shape c ≡ None → StoreTakes g c a m b n (Err f)
       → StoreSteps g c a m b n (Err f)
-  stopped_same {b} n c f steps unsplit logs passes t = stopped n c f steps unsplit
-      (subst (λ (ds : List Disk). (v : VolumeTable) (image : ℕ → List ℕ) → StoreLeaves g b v image → IsKept (content_in (g.site a) v image) × IsBetween (MayShow (g.site a) (StoreLeaves g a)) (store_state g a m).disks ds (disks (content_in (g.site a) v image)))
-      (ap (λ (o : Outcome). o.after.disks) (sym (tracked_behind (store_state g a m) c passes))) t.crash) (still_logged n c logs t.logged)
+  stopped_same {b} n c f steps carries still logs passes t =
+      let crash : Crashes b c =
+      subst (λ (ds : List Disk). (v : VolumeTable) (image : ℕ → List ℕ) → StoreLeaves g b v image → IsKept (content_in (g.site a) v image) × IsBetween (MayShow (g.site a) (StoreLeaves g a)) (store_state g a m).disks ds (disks (content_in (g.site a) v image)))
+      (ap (λ (o : Outcome). o.after.disks) (sym (tracked_behind (store_state g a m) c passes))) t.crash in
+      stopped n c f steps carries crash (still_logged n c logs t.logged) (same_told n c carries still crash logs t.logged)
 
   -- ---- marks before it
 
   module _ {b : S} {n : Memory} {ls : List Log} {ok : Type 0} (site : g.site b ≡ g.site a) (x : HasChangedLogs g a m b n ls ok) where
     -- they failed
-    pub marks_stopped : {most : ℕ} (c : Command) (f : Failed) → StepsOn g most a b → IsUnsplit (store_state g a m).shape c → ls ≡ (tracked_step (store_state g a m) c).after.shape.logs → StoreSteps g c a m b n (Err f)
-    marks_stopped c f steps unsplit aims = stopped n c f steps unsplit (λ v image l. (let w = x.crash v image l in (w.0, shown_between _ _ w.1)))
-        (λ v image l. subst (IsLoggedBetween (content_in (g.site a) v image) m.logs) aims (x.logged v image l))
+    pub marks_stopped : {most : ℕ} (c : Command) (f : Failed) → StepsOn g most a b → CarriesLogs (store_state g a m).shape c → ls ≡ (tracked_step (store_state g a m) c).after.shape.logs → Grow m.logs ls → StoreSteps g c a m b n (Err f)
+    marks_stopped c f steps carries aims grow =
+        let crash : Crashes b c = λ v image l. (let w = x.crash v image l in (w.0, shown_between _ _ w.1)) in
+        let logged : Logs b c = λ v image l. subst (IsLoggedBetween (content_in (g.site a) v image) m.logs) aims (x.logged v image l) in
+        stopped n c f steps carries crash logged (grown_told h good b c carries (λ v image l. (crash v image l).1) logged n ls ok x grow)
 
     -- the command behind them
     module _ (e : S) (k : Memory) (c : Command) (r : Result Reply Failed) (same : step (store_state g b n) c ≡ tracked_step (store_state g a m) c) (rich : IfOk r (λ y. y ≡ No NoMemory → ⊥)) where
@@ -310,8 +351,10 @@ module _ {S : Type 0} {g : Ghosts S} {a : S} {m : Memory} (h : IsTold g a m) (go
       earlier : (ds : List Disk) → MayShow (g.site a) (StoreLeaves g b) ds → MayShow (g.site a) (StoreLeaves g a) ds
       earlier ds may = subst (MayShow (g.site a) (StoreLeaves g a)) (sym may.shown) (x.crash may.table may.image may.left).1
 
-      pub marks_stepped : {most : ℕ} → StepsOn g most a e → IsUnsplit (store_state g a m).shape c → k.logs ≡ o.after.shape.logs → StoreTakes g c b n e k r → StoreSteps g c a m e k r
-      marks_stepped steps unsplit aims t =
+      pub marks_stepped : {most : ℕ} (u : List ℕ) (sector count : ℕ) → IsWriteOf c u sector count → refusal (store_state g a m).shape c ≡ None → StepsOn g most a e → CarriesLogs (store_state g a m).shape c → k.logs ≡ o.after.shape.logs → StoreTakes g c b n e k r
+          → StoreSteps g c a m e k r
+      unfolding shape_in
+      marks_stepped u sector count is passes steps carries aims t =
           let w = placed t in
           let crash : Crashes e c = λ v image l. (let z = w.crash v image l in (
             z.0,
@@ -319,13 +362,16 @@ module _ {S : Type 0} {g : Ghosts S} {a : S} {m : Memory} (h : IsTold g a m) (go
                 (between_more (MayShow (g.site a) (StoreLeaves g b)) (MayShow (g.site a) (StoreLeaves g a)) earlier _ _ _ z.1),
           )) in
           let logged : Logs e c = λ v image l u. (log_of u k.logs, w.logged v image l u, inr (inl (ap (log_of u) aims))) in
+          let marked : k.logs ≡ on_log u (touched sector count) m.logs = aims ∙ logs_behind (store_state g a m) c passes ∙ logs_marked c (store_state g a m).shape is in
           record {
             reply = replied r _ rich w.reply;
             ready = w.ready;
             settled = w.settled;
             crash = crash;
             logged = logged;
-            passes = step_passes h good c steps unsplit crash logged;
+            passes = step_passes h good c steps carries crash logged;
+            truthful = marked_told h good e c carries (λ v image l. (crash v image l).1) logged u sector count is passes
+                (λ v image left ls stand l i. subst (In l) marked (logged_in (content_in (g.site a) v image) k.logs ls (w.logged v image left) stand l i));
           }
 
   -- ---- a call that changes logs behind it
@@ -362,8 +408,12 @@ module _ {S : Type 0} {g : Ghosts S} {a : S} {m : Memory} (h : IsTold g a m) (go
         (subst (λ (s : Site). IsLoggedBetween (content_in s v image) m.logs ls) site
         (subst (λ (ms : List Log). IsLoggedBetween (content_in (g.site b) v image) ms ls) logs (x.logged v image l)))
 
-    pub later_stopped : Passes e → (f : Failed) → StoreSteps g c a m e k (Err f)
-    later_stopped whole f = record { reply = tt; ready = tt; settled = tt; crash = later_crash; logged = later_logged; passes = whole }
+    -- what is left of it is told
+    abbrev pub LaterTold : Type 0
+    LaterTold = AreTold (g.site a) (StoreLeaves g a) was.shape → LeavesTold (g.site a) (StoreLeaves g e)
+
+    pub later_stopped : Passes e → LaterTold → (f : Failed) → StoreSteps g c a m e k (Err f)
+    later_stopped whole told f = record { reply = tt; ready = tt; settled = tt; crash = later_crash; logged = later_logged; passes = whole; truthful = told }
 
     -- it succeeded
     module _ (fine : ok) (rich : y ≡ No NoMemory → ⊥) (site_end : g.site e ≡ g.site a)
@@ -382,14 +432,15 @@ module _ {S : Type 0} {g : Ghosts S} {a : S} {m : Memory} (h : IsTold g a m) (go
       ended (inl poor) = absurd (rich poor.0)
       ended (inr whole) = inr (whole.0 ∙ ap (λ (o : Outcome). o.reply) (sym behind), after whole.1)
 
-      pub later_stepped : Passes e → IsReady (g.site a) (table_alone (g.table e)) (g.area e) (known k) → StoreSteps g c a m e k (Ok y)
-      later_stepped whole ready = record {
+      pub later_stepped : Passes e → LaterTold → IsReady (g.site a) (table_alone (g.table e)) (g.area e) (known k) → StoreSteps g c a m e k (Ok y)
+      later_stepped whole told ready = record {
         reply = ended t.reply;
         ready = ready;
         settled = λ yes settles. x.settled fine (t.settled yes settles);
         crash = later_crash;
         logged = later_logged;
         passes = whole;
+        truthful = told;
       }
 
   -- ---- a log goes behind it
@@ -401,17 +452,24 @@ module _ {S : Type 0} {g : Ghosts S} {a : S} {m : Memory} (h : IsTold g a m) (go
     aims = ap (without_log u) logs
 
     whole : Passes e
-    whole = step_passes h good (command.Delete u) steps (delete_unsplit (command.Delete u) (store_state g a m).shape u refl) (later_crash (command.Delete u) y passes t site logs aims x) (later_logged (command.Delete u) y passes t site logs aims x)
+    whole = step_passes h good (command.Delete u) steps (delete_carries (command.Delete u) (store_state g a m).shape u refl) (later_crash (command.Delete u) y passes t site logs aims x) (later_logged (command.Delete u) y passes t site logs aims x)
+
+    told : LaterTold (command.Delete u) y passes t site logs aims x
+    unfolding logs_after shape_in
+    told = still_told h good e (command.Delete u) (delete_carries (command.Delete u) (store_state g a m).shape u refl) (λ v image l. (later_crash (command.Delete u) y passes t site logs aims x v image l).1)
+        (later_logged (command.Delete u) y passes t site logs aims x) (delete_still (command.Delete u) u refl)
+        (λ now v image left ls stand. without_left (content_in (g.site a) v image) u m.logs ls now.good.one_log
+        (subst (IsLoggedBetween (content_in (g.site a) v image) m.logs) (logs_behind (store_state g a m) (command.Delete u) passes) (later_logged (command.Delete u) y passes t site logs aims x v image left)) stand)
 
     pub end_stopped : (f : Failed) → StoreSteps g (command.Delete u) a m e k (Err f)
-    end_stopped f = later_stopped (command.Delete u) y passes t site logs aims x whole f
+    end_stopped f = later_stopped (command.Delete u) y passes t site logs aims x whole told f
 
     -- it succeeded
     pub end_stepped : ok → (y ≡ No NoMemory → ⊥) → g.site e ≡ g.site a
         → shape_in (g.site a) (table_alone (g.table e)) (known k) ≡ with_logs (without_log u m.logs) (of_log (λ l. 1) (log_of u m.logs)) (shape_in (g.site a) (table_alone (g.table b)) (known n))
         → IsReady (g.site a) (table_alone (g.table e)) (g.area e) (known k) → StoreSteps g (command.Delete u) a m e k (Ok y)
     unfolding logs_after log_commits shape_in
-    end_stepped fine rich site_end shaped ready = later_stepped (command.Delete u) y passes t site logs aims x fine rich site_end shaped whole ready
+    end_stepped fine rich site_end shaped ready = later_stepped (command.Delete u) y passes t site logs aims x fine rich site_end shaped whole told ready
 
 -- ---- marks, and what the session tells of a write besides
 
@@ -480,6 +538,13 @@ pub delete_rich : (c : Command) (s : Shape) (u : List ℕ) → c ≡ command.Del
 unfolding may_want_memory takes_memory
 delete_rich c s u is h = true≢false (sym h ∙ ap (may_want_memory s) is)
 
+-- a command that is none of logs alone
+pub not_of_logs : (c : Command) → ((u : List ℕ) (on : Bool) → c ≡ command.Track u on → ⊥) → ((u n : List ℕ) → c ≡ command.Changed u n → ⊥) → is_of_logs c ≡ false
+unfolding is_of_logs
+not_of_logs (command.Track u on) no_track no_changed = absurd (no_track u on refl)
+not_of_logs (command.Changed u n) no_track no_changed = absurd (no_changed u n refl)
+not_of_logs _ no_track no_changed = refl
+
 -- what no guest writes
 pub no_marks : {S : Type 0} (g : Ghosts S) (m : Memory) (c : Command) (a b : S) → ((u : List ℕ) (sector : ℕ) (bytes : List ℕ) → c ≡ command.Write u sector bytes → ⊥) → ((u : List ℕ) (sector count byte : ℕ) → c ≡ command.Fill u sector count byte → ⊥)
     → MarksAndWritesIts g m c a b
@@ -495,7 +560,7 @@ nothing_put g m _ a = tt
 
 -- a refused command does nothing
 pub refused_stepped : {S : Type 0} {g : Ghosts S} {a : S} {m : Memory} → IsTold g a m → ∥ AreGoodLogs (store_state g a m).shape ∥₁ → (c : Command) (x : Refusal) → refusal (store_state g a m).shape c ≡ Some x → StoreSteps g c a m a m (Ok (No x))
-unfolding tracked_step
+unfolding tracked_step shape_in
 refused_stepped {S} {g} {a} {m} h good c x is =
     let w : StoreTakesTo (tracked_step (store_state g a m) c) g c a m a m (Ok (No x)) = taken_refused h c x (ap (λ (r : Option Refusal). tracked_unless r (store_state g a m) c) is) in
     let logged : Logs h good a c = still_logged h good m c refl w.logged in
@@ -506,10 +571,12 @@ refused_stepped {S} {g} {a} {m} h good c x is =
       crash = w.crash;
       logged = logged;
       passes = step_passes h good c (stays_steps (stays_none a) (λ told. h.now)) (λ passes. absurd (none-some x (sym passes ∙ is))) w.crash logged;
+      truthful = λ told. now_told h good told.taken told.tells;
     }
 
 -- where memory is wanting before anything was done, nothing was
 pub poor_stepped : {S : Type 0} {g : Ghosts S} {a : S} {m : Memory} → IsTold g a m → ∥ AreGoodLogs (store_state g a m).shape ∥₁ → (c : Command) → StoreSteps g c a m a m (Ok (No NoMemory))
+unfolding shape_in
 poor_stepped {S} {g} {a} {m} h good c =
     let w : StoreTakesTo (tracked_step (store_state g a m) c) g c a m a m (Ok (No NoMemory)) = taken_poor h c m (reads_none a) (λ t image left. left) refl in
     record {
@@ -519,4 +586,5 @@ poor_stepped {S} {g} {a} {m} h good c =
       crash = w.crash;
       logged = still_logged h good m c refl w.logged;
       passes = λ v image left. (kept_passes h good v image left).passes;
+      truthful = λ told. now_told h good told.taken told.tells;
     }

@@ -6,6 +6,7 @@ use Rattle.std.proofs.Math.Logic.{∥∥₁_elim}
 use Rattle.std.proofs.Props.{props}
 use Rattle.std.proofs.lemmas.Bool.{true≢false}
 use Rattle.std.proofs.lemmas.List.{length-replicate}
+use Rattle.std.proofs.lemmas.Option.{none-some}
 use Rattle.common_laws.specs.Lists.{In, when}
 use Rattle.common_laws.proofs.Bytes.{bytes_eq-refl, bytes_eq-same}
 use Rattle.common_laws.proofs.Lists.{In-filter, In-insert, In-insert_old, In-map, In-map_at, filter-In}
@@ -32,7 +33,7 @@ use Rattle.sm_standing.specs.Checks.{first_fault}
 use Rattle.sm_standing.specs.Contents.{Content}
 use Rattle.sm_standing.specs.Keeping.{IsKept}
 use Rattle.sm_standing.specs.LogChecks.{HasRightLog, HaveOneTag, IsLogLike, log_fault}
-use Rattle.sm_standing.specs.Logs.{IsLogged, log_at}
+use Rattle.sm_standing.specs.Logs.{IsLogOf, IsLogged, log_at}
 use Rattle.sm_standing.specs.Standing.{disks}
 use Rattle.vg_meta.specs.Tables.{Row, VolumeTable}
 use Rattle.vg_volumes.specs.declared.stores.Store.{Ghosts}
@@ -59,10 +60,10 @@ pub record Carries (old new : State) : Type 0 where
   pub from : (l : Log) → In l new.shape.logs → (m : Log) × In m old.shape.logs × IsLogLike m l × (l.since ≡ m.since)
   pub to : (m : Log) → In m old.shape.logs → (d : Disk) → In d new.disks → d.uuid ≡ m.disk → (l : Log) × In l new.shape.logs × IsLogLike m l
 
-like_same : (l : Log) → IsLogLike l l
+pub like_same : (l : Log) → IsLogLike l l
 like_same l = record { disk = refl; extents = refl; tag = refl; pieces = refl }
 
-same_carried : (old new : State) → new.shape.logs ≡ old.shape.logs → Carries old new
+pub same_carried : (old new : State) → new.shape.logs ≡ old.shape.logs → Carries old new
 same_carried old new same = record {
   from = λ l i. (l, subst (In l) same i, like_same l, refl);
   to = λ m i d j own. (m, subst (In m) (sym same) i, like_same m);
@@ -102,34 +103,36 @@ less_carried old new u is gone = record {
 none_split : (u twin : List ℕ) (tag : ℕ) (logs : List Log) (o : Option Log) → o ≡ None → split_of u twin tag o logs ≡ logs
 none_split u twin tag logs o e = ap (λ (x : Option Log). split_of u twin tag x logs) e
 
-accepted_carried : (σ : State) (c : Command) → ((u twin : List ℕ) → c ≡ command.Snapshot u twin → log_of u σ.shape.logs ≡ None) → Carries σ ((tracked_unless None σ c).after)
+accepted_carried : (σ : State) (c : Command) → ((u twin : List ℕ) → c ≡ command.Snapshot u twin → log_of u σ.shape.logs ≡ None) → ((u : List ℕ) (on : Bool) → c ≡ command.Track u on → ⊥) → Carries σ ((tracked_unless None σ c).after)
 unfolding accepted logs_after disks_next
-accepted_carried σ (command.Create u size raw label) none = same_carried σ _ refl
-accepted_carried σ (command.Delete u) none = less_carried σ _ u refl refl
-accepted_carried σ (command.Attach u mode) none = same_carried σ _ refl
-accepted_carried σ (command.Detach u) none = same_carried σ _ refl
-accepted_carried σ (command.Snapshot u twin) none = same_carried σ _ (none_split u twin σ.shape.sequence σ.shape.logs (log_of u σ.shape.logs) (none u twin refl))
-accepted_carried σ (command.Clone u twin) none = same_carried σ _ refl
-accepted_carried σ (command.Resize u size) none = same_carried σ _ refl
-accepted_carried σ (command.Label u text) none = same_carried σ _ refl
-accepted_carried σ (command.Write u sector bytes) none = marked_carried σ _ u sector _ refl
-accepted_carried σ (command.Fill u sector count byte) none = marked_carried σ _ u sector count refl
-accepted_carried σ (command.Read u sector count) none = same_carried σ _ refl
-accepted_carried σ (command.Flush u) none = same_carried σ _ refl
-accepted_carried σ command.Gc none = same_carried σ _ refl
-accepted_carried σ command.List none = same_carried σ _ refl
-accepted_carried σ command.Stat none = same_carried σ _ refl
+accepted_carried σ (command.Create u size raw label) none no_track = same_carried σ _ refl
+accepted_carried σ (command.Delete u) none no_track = less_carried σ _ u refl refl
+accepted_carried σ (command.Attach u mode) none no_track = same_carried σ _ refl
+accepted_carried σ (command.Detach u) none no_track = same_carried σ _ refl
+accepted_carried σ (command.Snapshot u twin) none no_track = same_carried σ _ (none_split u twin σ.shape.sequence σ.shape.logs (log_of u σ.shape.logs) (none u twin refl))
+accepted_carried σ (command.Clone u twin) none no_track = same_carried σ _ refl
+accepted_carried σ (command.Resize u size) none no_track = same_carried σ _ refl
+accepted_carried σ (command.Label u text) none no_track = same_carried σ _ refl
+accepted_carried σ (command.Write u sector bytes) none no_track = marked_carried σ _ u sector _ refl
+accepted_carried σ (command.Fill u sector count byte) none no_track = marked_carried σ _ u sector count refl
+accepted_carried σ (command.Read u sector count) none no_track = same_carried σ _ refl
+accepted_carried σ (command.Flush u) none no_track = same_carried σ _ refl
+accepted_carried σ command.Gc none no_track = same_carried σ _ refl
+accepted_carried σ command.List none no_track = same_carried σ _ refl
+accepted_carried σ command.Stat none no_track = same_carried σ _ refl
+accepted_carried σ (command.Track u on) none no_track = absurd (no_track u on refl)
+accepted_carried σ (command.Changed u n) none no_track = same_carried σ _ refl
 
--- a command does not take a snapshot of a tracked disk, or is refused
-abbrev pub IsUnsplit : Shape → Command → Type 0
-IsUnsplit s c = refusal s c ≡ None → (u twin : List ℕ) → c ≡ command.Snapshot u twin → log_of u s.logs ≡ None
+-- a command that no cause refuses takes no snapshot of a tracked disk, and neither begins nor ends tracking
+abbrev pub CarriesLogs : Shape → Command → Type 0
+CarriesLogs s c = refusal s c ≡ None → ((u twin : List ℕ) → c ≡ command.Snapshot u twin → log_of u s.logs ≡ None) × ((u : List ℕ) (on : Bool) → c ≡ command.Track u on → ⊥)
 
-step_carried : (σ : State) (c : Command) → IsUnsplit σ.shape c → Carries σ ((tracked_step σ c).after)
+pub step_carried : (σ : State) (c : Command) → CarriesLogs σ.shape c → Carries σ ((tracked_step σ c).after)
 unfolding tracked_step
-step_carried σ c unsplit = by (refusal σ.shape c) refl
+step_carried σ c carries = by (refusal σ.shape c) refl
   where
     by : (o : Option Refusal) → refusal σ.shape c ≡ o → Carries σ ((tracked_unless o σ c).after)
-    by None e = accepted_carried σ c (unsplit e)
+    by None e = let w = carries e in accepted_carried σ c w.0 w.1
     by (Some r) e = same_carried σ _ refl
 
 -- ---- a content between two states
@@ -177,7 +180,7 @@ module _ (c : Content) (s : Shape) (sound : first_fault c ≡ None) (good : AreG
 abbrev IsSeen : Disk → List Disk → Type 0
 IsSeen d ds = (e : Disk) × In e ds × (face d ≡ face e)
 
-seen : (d : Disk) (xs ds : List Disk) → In d xs → map face xs ≡ map face ds → IsSeen d ds
+pub seen : (d : Disk) (xs ds : List Disk) → In d xs → map face xs ≡ map face ds → IsSeen d ds
 seen d xs ds i same = In-map face ds (face d) (subst (In (face d)) same (In-map_at face xs d i))
 
 -- each log is like one behind a split
@@ -367,6 +370,67 @@ module _ (c : Content) (old new : State) (sound : first_fault c ≡ None) (was :
     pub split_passes : log_fault c ≡ None
     split_passes = like_passes c new.shape sound now.good (extent ∙ sym same_extent) there_left heir heir_long
 
+  -- ---- where a log goes, and its disk stays
+
+  module _ (fewer : (l : Log) → In l new.shape.logs → In l old.shape.logs) (still : map face (disks c) ≡ map face old.disks) where
+    abbrev HasElder : Log → Type 0
+    HasElder l = (m : Log) × In m old.shape.logs × IsLogLike m l × (l.tag < c.table.sequence) × (l.since < c.table.sequence)
+
+    elder_of : (m l : Log) → In m old.shape.logs → IsLogLike m l → l.since < old.shape.sequence → HasElder l
+    elder_of m l i like since = (m, i, like, omega (arith, like.tag, (was.good.good m i).tag, later), omega (arith, since, later))
+
+    old_elder : (l : Log) → In l old.shape.logs → HasElder l
+    old_elder l i = elder_of l l i (like_same l) (was.good.good l i).since
+
+    elder : (u : List ℕ) (l : Log) → log_at c u ≡ Some l → HasElder l
+    elder = from_either HasElder old_elder (λ l i. old_elder l (fewer l i)) (λ m k l i j b. elder_of m l i (record { disk = b.disk; extents = b.extents; tag = b.tag; pieces = b.pieces })
+        (let low = (was.good.good k (fewer k j)).since in omega (arith, b.since, low)))
+
+    pub fewer_passes : log_fault c ≡ None
+    fewer_passes = like_passes c old.shape sound was.good extent there_left elder
+        (λ d l i is. let e = seen d (disks c) old.disks i still in let x = elder d.uuid l is in like_long old was d e.0 x.0 l e.1 e.2 x.1 x.2 (own_left d.uuid l is))
+
+  -- ---- where a log begins, with the numbers 0
+
+  module _ (begun : Log) (untagged : begun.tag ≡ 0) (since_none : begun.since ≡ 0) (numbered : IsLogOf c begun.disk None ⊎ (0 < c.table.sequence))
+      (either : (l : Log) → In l new.shape.logs → (l ≡ begun) ⊎ In l old.shape.logs) (more : (l : Log) → In l old.shape.logs → In l new.shape.logs)
+      (same_extent : new.shape.extent ≡ old.shape.extent) (still : map face (disks c) ≡ map face new.disks) where
+    abbrev HasNewer : Log → Type 0
+    HasNewer l = log_at c l.disk ≡ Some l → (m : Log) × In m new.shape.logs × IsLogLike m l × (l.tag < c.table.sequence) × (l.since < c.table.sequence)
+
+    old_newer : (l : Log) → In l old.shape.logs → HasNewer l
+    old_newer l i is = (l, more l i, like_same l, omega (arith, (was.good.good l i).tag, later), omega (arith, (was.good.good l i).since, later))
+
+    -- the new log itself is left only where the number is above 0
+    begun_number : (l : Log) → l ≡ begun → log_at c l.disk ≡ Some l → 0 < c.table.sequence
+    begun_number l same is = ⊎_elim (λ none. absurd (none-some l (sym none.read ∙ ap (λ (x : Log). log_at c x.disk) (sym same) ∙ is))) (λ above. above) numbered
+
+    new_newer : (l : Log) → In l new.shape.logs → HasNewer l
+    new_newer l i is = ⊎_elim
+        (λ same. let above = begun_number l same is in (l, i, like_same l, omega (arith, ap (λ (x : Log). x.tag) same, untagged, above), omega (arith, ap (λ (x : Log). x.since) same, since_none, above)))
+        (λ j. old_newer l j is) (either l i)
+
+    -- the since of a log behind the beginning
+    low_since : (k : Log) → In k new.shape.logs → (k.since ≡ 0) ⊎ (k.since < old.shape.sequence)
+    low_since k j = ⊎_elim (λ same. inl (ap (λ (x : Log). x.since) same ∙ since_none)) (λ i. inr (was.good.good k i).since) (either k j)
+
+    between_newer : (m k l : Log) → In m old.shape.logs → In k new.shape.logs → IsLogBetween m k l → HasNewer l
+    between_newer m k l i j b is =
+        let low = (was.good.good m i).tag in (
+          m,
+          more m i,
+          record { disk = b.disk; extents = b.extents; tag = b.tag; pieces = b.pieces },
+          omega (arith, b.tag, low, later),
+          ⊎_elim (λ none. omega (arith, b.since, none, low, later)) (λ less. omega (arith, b.since, less, later)) (low_since k j),
+        )
+
+    newer : (u : List ℕ) (l : Log) → log_at c u ≡ Some l → (m : Log) × In m new.shape.logs × IsLogLike m l × (l.tag < c.table.sequence) × (l.since < c.table.sequence)
+    newer u l is = from_either HasNewer old_newer new_newer between_newer u l is (ap (log_at c) (own_left u l is) ∙ is)
+
+    pub begun_passes : log_fault c ≡ None
+    begun_passes = like_passes c new.shape sound now.good (extent ∙ sym same_extent) there_left newer
+        (λ d l i is. let e = seen d (disks c) new.disks i still in let x = newer d.uuid l is in like_long new now d e.0 x.0 l e.1 e.2 x.1 x.2 (own_left d.uuid l is))
+
 -- ---- what a stop leaves of a step
 
 -- disks that are between have the faces of before or of after
@@ -382,19 +446,19 @@ later_left {S} {g} {a} {b} told steps few v image left = ⊎_elim
 
 -- a stop that leaves a content which passes the other checks, with disks and logs between those of before and of after
 module _ {S : Type 0} {g : Ghosts S} {a : S} {m : Memory} (h : IsTold g a m) (good : ∥ AreGoodLogs (store_state g a m).shape ∥₁) where
-  pub step_passes : {b : S} {most : ℕ} (c : Command) → StepsOn g most a b → IsUnsplit (store_state g a m).shape c
+  pub step_passes : {b : S} {most : ℕ} (c : Command) → StepsOn g most a b → CarriesLogs (store_state g a m).shape c
       → ((v : VolumeTable) (image : ℕ → List ℕ) → StoreLeaves g b v image → IsKept (content_in (g.site a) v image)
       × IsBetween (MayShow (g.site a) (StoreLeaves g a)) (store_state g a m).disks (tracked_step (store_state g a m) c).after.disks (disks (content_in (g.site a) v image)))
       → ((v : VolumeTable) (image : ℕ → List ℕ) → StoreLeaves g b v image → IsLoggedBetween (content_in (g.site a) v image) m.logs (tracked_step (store_state g a m) c).after.shape.logs)
       → (v : VolumeTable) (image : ℕ → List ℕ) → StoreLeaves g b v image → log_fault (content_in (g.site a) v image) ≡ None
   unfolding shape_in
-  step_passes c steps unsplit crash logged v image left = ∥∥₁_elim h.orderly.well_formed (hlevel props) (λ w. ∥∥₁_elim good (hlevel props) (λ x.
+  step_passes c steps carries crash logged v image left = ∥∥₁_elim h.orderly.well_formed (hlevel props) (λ w. ∥∥₁_elim good (hlevel props) (λ x.
       let σ : State = store_state g a m in
       let are = are_disks (g.site a) (tab g a) (g.area a) (known m) h.orderly h.ready w in
       let z = crash v image left in
       between_passes (content_in (g.site a) v image) σ (tracked_step σ c).after z.0.sound (record { well = w; are = are; good = x })
       (record { well = tracked_step_keeps_shape σ c w x; are = tracked_keeps_disks σ c w are; good = tracked_step_keeps_logs σ c w x }) refl (later_left h.told steps h.orderly.table.sequence v image left)
-      (faces_between (MayShow (g.site a) (StoreLeaves g a)) σ.disks (tracked_step σ c).after.disks (disks (content_in (g.site a) v image)) z.1) (logged v image left) (step_carried σ c unsplit)))
+      (faces_between (MayShow (g.site a) (StoreLeaves g a)) σ.disks (tracked_step σ c).after.disks (disks (content_in (g.site a) v image)) z.1) (logged v image left) (step_carried σ c carries)))
 
   -- a store between two steps: whatever a stop leaves is kept, and passes the check of logs
   pub kept_passes : KeepsAll (g.site a) (StoreLeaves g a)

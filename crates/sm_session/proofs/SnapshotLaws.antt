@@ -1,5 +1,5 @@
 -- A snapshot is made of a tracked disk, and then the disk's log is split: what they make together.
-use Rattle.std.proofs.Common.{◌≡◌, ◌≢◌, inl, ⊎_elim, zero, suc, ℕ, ◌-◌, ◌*◌, ◌<◌, ◌≤◌, ◌^◌, List, length, Option, Some, None, Result, Ok, Err, refl, sym, ap, ap₂, ◌∙◌, subst, arith}
+use Rattle.std.proofs.Common.{◌≡◌, ◌≢◌, inl, inr, ⊎_elim, zero, suc, ℕ, ◌-◌, ◌*◌, ◌<◌, ◌≤◌, ◌^◌, List, length, Option, Some, None, Result, Ok, Err, refl, sym, ap, ap₂, ◌∙◌, subst, arith}
 use Rattle.std.proofs.Math.Logic.{∥∥₁_elim}
 use Rattle.std.proofs.Props.{props}
 use Rattle.std.proofs.lemmas.Bool.{leb-false}
@@ -21,8 +21,8 @@ use Rattle.sm_machine.specs.Commits.{commits, is_given_up, own_commits}
 use Rattle.sm_machine.specs.Disks.{Disk}
 use Rattle.sm_machine.specs.Refusals.{is_spent, is_taken, log_need, new_uuid, of_log, refusal}
 use Rattle.sm_machine.specs.Shapes.{Shape, disk_image, free}
-use Rattle.sm_machine.specs.Steps.{Outcome, State, accepted, reply_to, shape_next, step}
-use Rattle.sm_machine.specs.Tracking.{AreGoodLogs, log_commits, logs_after, tracked_step, with_logs, with_tracked}
+use Rattle.sm_machine.specs.Steps.{Outcome, State, accepted, disks_next, reply_to, shape_next, step}
+use Rattle.sm_machine.specs.Tracking.{AreGoodLogs, AreOfSnapshots, log_commits, logs_after, tracked_step, with_logs, with_tracked}
 use Rattle.sm_machine.specs.WellFormed.{IsWellFormed, record_of}
 use Rattle.sm_machine.specs.declared.commands.Command.{Command}
 use Rattle.sm_machine.specs.declared.commands.Command.TheVariants as command
@@ -48,11 +48,19 @@ use Rattle.sm_ready.specs.Stores.{MayShow, StoreLeaves, content_in}
 use Rattle.sm_ready.specs.Taken.{StoreTakes}
 use Rattle.sm_ready.specs.declared.memory.Memory.{Memory}
 use Rattle.sm_tracking.specs.Rooms.{CanSplit, IsRoomFor}
-use Rattle.sm_tracking.specs.Tracking.{HasChangedLogs}
+use Rattle.sm_tracking.specs.Tracking.{HasChangedLogs, IsLoggedBetween}
 use Rattle.sm_tracking.specs.declared.rooms.Room.{Room}
 use Rattle.sm_session.proofs.LoggedLaws.{Crashes, Passes, later_crash, later_logged, later_stepped, later_stopped, logs_behind, step_same, still_logged, tracked_behind}
-use Rattle.sm_session.proofs.PassLaws.{IsGoodState, IsUnsplit, faces_between, front_passes, later_left, like_split, split_passes}
+use Rattle.sm_session.proofs.PassLaws.{CarriesLogs, IsGoodState, faces_between, front_passes, later_left, like_split, split_passes}
 use Rattle.sm_session.specs.Stepped.{StoreSteps}
+use Rattle.sm_session.specs.Truth.{AreTaken, AreTold, LeavesTold, StandIn}
+use Rattle.sm_session.proofs.ShownLaws.{AreBetween, Behind, later_shown, split_tells, still_tells}
+use Rattle.sm_session.proofs.TagLaws.{split_taken}
+use Rattle.sm_session.proofs.ToldLaws.{snapshot_still}
+use Rattle.sm_session.proofs.TruthLaws.{IsOfSplit, logged_in, split_left}
+use Rattle.sm_machine.proofs.TrackedSnapshots.{tracked_step_keeps_snapshots}
+use Rattle.sm_machine.specs.Runs.{HasSector, is_accepted, is_settling}
+use Rattle.sm_ready.proofs.ShowLaws.{settled_ready}
 
 -- ---- the machine's snapshot
 
@@ -141,6 +149,31 @@ module _ {S : Type 0} {g : Ghosts S} {a : S} {m : Memory} (h : IsTold g a m) (go
   fork_crash b n r t = subst (λ (o : Outcome). (v : VolumeTable) (image : ℕ → List ℕ) → StoreLeaves g b v image → IsKept (content_in (g.site a) v image)
       × IsBetween (MayShow (g.site a) (StoreLeaves g a)) was.disks o.after.disks (disks (content_in (g.site a) v image))) (sym behind) t.crash
 
+  -- ---- what logs tell
+
+  -- a log that a stop leaves of the snapshot
+  abbrev IsLeft : Log → Type 0
+  IsLeft l = IsOfSplit u own (twin_log twin (tab g a).sequence own) (tab g a).sequence m.logs l
+
+  taken_left : (b : S) → AreBetween h b now.after.disks → AreOfSnapshots was.shape → (v : VolumeTable) (image : ℕ → List ℕ) → StoreLeaves g b v image → (ls : List Log)
+      → (IsWellFormed was.shape → AreGoodLogs was.shape → (l : Log) → In l ls → IsLeft l) → AreTaken (disks (content_in (g.site a) v image)) ls
+  unfolding shape_in
+  taken_left b between marked v image left ls each = ∥∥₁_elim h.orderly.well_formed (hlevel props) (λ w. ∥∥₁_elim good (hlevel props) (λ x.
+      let ds : List Disk = disks (content_in (g.site a) v image) in
+      split_taken ds was now.after u twin (tab g a).sequence own (log_in_list m.logs u own found).0 (old_good w x) (new_good w x) marked (tracked_step_keeps_snapshots was snapshot w x marked)
+      (faces_between (MayShow (g.site a) (StoreLeaves g a)) was.disks now.after.disks ds (between v image left)) logs_are (fresh w x)
+      (λ l i. (let k = like_split u (twin_log twin (tab g a).sequence own) (tab g a).sequence m.logs l i in (k.0, subst (In k.0) (sym logs_are) k.1, k.2))) ls (each w x)))
+
+  fork_told : (b : S) (n : Memory) → Crashes h good b snapshot → n.logs ≡ m.logs → ((v : VolumeTable) (image : ℕ → List ℕ) → StoreLeaves g b v image → IsLogged (content_in (g.site a) v image) n.logs)
+      → AreTold (g.site a) (StoreLeaves g a) was.shape → LeavesTold (g.site a) (StoreLeaves g b)
+  unfolding shape_in
+  fork_told b n crash same logged told v image left ls stand =
+      let between : AreBetween h b now.after.disks = λ y i l. (crash y i l).1 in
+      let there : (l : Log) → In l ls → In l m.logs = λ l i. subst (In l) same (logged_in (content_in (g.site a) v image) n.logs ls (logged v image left) stand l i) in (
+        taken_left b between told.taken v image left ls (λ w x l i. inr (inl (there l i))),
+        ∥∥₁_elim h.orderly.well_formed (hlevel props) (λ w. ∥∥₁_elim good (hlevel props) (λ x. still_tells h (old_good w x) told.tells b snapshot ls (snapshot_still u twin) between there)),
+      )
+
   -- the fork failed
   pub fork_stopped : {b : S} {most : ℕ} (n : Memory) (f : Failed) → StepsOn g most a b → n.logs ≡ m.logs → StoreTakes g snapshot a m b n (Err f) → StoreSteps g snapshot a m b n (Err f)
   fork_stopped {b} n f steps same t = record {
@@ -150,6 +183,7 @@ module _ {S : Type 0} {g : Ghosts S} {a : S} {m : Memory} (h : IsTold g a m) (go
     crash = fork_crash b n (Err f) t;
     logged = still_logged h good n snapshot same t.logged;
     passes = front_whole n steps same (fork_crash b n (Err f) t) t.logged;
+    truthful = fork_told b n (fork_crash b n (Err f) t) same t.logged;
   }
 
   -- memory was wanting for it
@@ -162,6 +196,7 @@ module _ {S : Type 0} {g : Ghosts S} {a : S} {m : Memory} (h : IsTold g a m) (go
     crash = fork_crash b n (Ok y) t;
     logged = still_logged h good n snapshot same t.logged;
     passes = front_whole n steps same (fork_crash b n (Ok y) t) t.logged;
+    truthful = fork_told b n (fork_crash b n (Ok y) t) same t.logged;
   }
 
   -- ---- behind it
@@ -208,16 +243,41 @@ module _ {S : Type 0} {g : Ghosts S} {a : S} {m : Memory} (h : IsTold g a m) (go
             (faces_between (MayShow (g.site a) (StoreLeaves g a)) was.disks now.after.disks (disks (content_in (g.site a) v image)) z.1) (later_logged h good snapshot Done passes t site same aims x v image left)
             u twin own found logs_are same_extent (omega (arith, low, raised)) (fresh w y)))
 
-        pub split_stopped : (f : Failed) → StoreSteps g snapshot a m e k (Err f)
-        split_stopped f = later_stopped h good snapshot Done passes t site same aims x split_whole f
+        -- the twin had no log
+        no_twin : log_of twin m.logs ≡ None
+        no_twin = subst (λ (v : List ℕ). log_of v m.logs ≡ None) named room.absent
 
-        pub split_stepped : ok → g.site e ≡ g.site a → store_shape g e k ≡ with_logs (split_logs u r.log.disk r.log.tag n.logs) 2 (store_shape g b n) → IsReadyStore g e k → StoreSteps g snapshot a m e k (Ok Done)
+        -- behind the fork all lasts, so a stop shows the machine's disks alone
+        settled_shown : IsTold g b n → (v : List ℕ) (i : ℕ) (bytes : List ℕ) → Behind h e v i bytes → HasSector (disks_next was.disks was.shape snapshot) v i bytes
+        unfolding is_accepted is_settling accepted
+        settled_shown later v i bytes s =
+            let w = later_shown h b e n k _ ok site x v i bytes s in
+            let may : MayShow (g.site b) (StoreLeaves g b) w.0 = subst (λ (y : Site). MayShow y (StoreLeaves g b) w.0) (sym site) w.1 in
+            let has : HasSector (store_state g b n).disks v i bytes = (settled_ready later (t.settled refl refl) w.0 may).sectors v i bytes w.2 in
+            subst (λ (ds : List Disk). HasSector ds v i bytes)
+            (ap (λ (y : Site). (state_in y (tab g b) (g.area b) (known n)).disks) site ∙ ap (λ (z : State). z.disks) forked ∙ ap (λ (o : Outcome). o.after.disks) (step_accepted was snapshot passes)) has
+
+        split_told : IsTold g b n → AreTold (g.site a) (StoreLeaves g a) was.shape → LeavesTold (g.site a) (StoreLeaves g e)
+        unfolding shape_in
+        split_told later told v image left ls stand =
+            let logged : (y : VolumeTable) (i : ℕ → List ℕ) → StoreLeaves g e y i → IsLoggedBetween (content_in (g.site a) y i) m.logs its =
+            λ y i l. subst (IsLoggedBetween (content_in (g.site a) y i) m.logs) logs_are (later_logged h good snapshot Done passes t site same aims x y i l) in
+            let each : IsWellFormed was.shape → AreGoodLogs was.shape → (l : Log) → In l ls → IsLeft l =
+            λ w y. split_left u twin (tab g a).sequence own m.logs found y.one_log no_twin (content_in (g.site a) v image) ls (logged v image left) stand in (
+              taken_left e (λ y i l. (later_crash h good snapshot Done passes t site same aims x y i l).1) told.taken v image left ls each,
+              ∥∥₁_elim h.orderly.well_formed (hlevel props) (λ w. ∥∥₁_elim good (hlevel props) (λ y. split_tells h (old_good w y) told.tells e u twin own ls found no_twin passes (settled_shown later) (each w y))),
+            )
+
+        pub split_stopped : IsTold g b n → (f : Failed) → StoreSteps g snapshot a m e k (Err f)
+        split_stopped later f = later_stopped h good snapshot Done passes t site same aims x split_whole (split_told later) f
+
+        pub split_stepped : IsTold g b n → ok → g.site e ≡ g.site a → store_shape g e k ≡ with_logs (split_logs u r.log.disk r.log.tag n.logs) 2 (store_shape g b n) → IsReadyStore g e k → StoreSteps g snapshot a m e k (Ok Done)
         unfolding log_commits shape_in
-        split_stepped fine site_end shaped ready = later_stepped h good snapshot Done passes t site same aims x fine (λ z. (let q = z in cc)) site_end
+        split_stepped later fine site_end shaped ready = later_stepped h good snapshot Done passes t site same aims x fine (λ z. (let q = z in cc)) site_end
             (ap (λ (s : Site). shape_in s (tab g e) (known k)) (sym site_end) ∙ shaped
             ∙ ap₂ (λ (ls : List Log) (s : Shape). with_logs ls 2 s) aims (ap (λ (s : Site). shape_in s (tab g b) (known n)) site)
             ∙ ap (λ (j : ℕ). with_logs (logs_after was.shape snapshot) j (shape_in (g.site a) (tab g b) (known n))) (sym (ap (of_log (λ l. 2)) found)))
-            split_whole (subst (λ (s : Site). IsReady s (tab g e) (g.area e) (known k)) site_end ready)
+            split_whole (split_told later) (subst (λ (s : Site). IsReady s (tab g e) (g.area e) (known k)) site_end ready)
 
 -- what a split makes of the logs is the machine's
 pub split_logs_are : (u v twin : List ℕ) (k tag : ℕ) {ls ms : List Log} → v ≡ twin → k ≡ tag → ls ≡ ms → split_logs u v k ls ≡ split_logs u twin tag ms
@@ -225,9 +285,12 @@ split_logs_are u v twin k tag {ls} {ms} named tagged same = ap₂ (λ (w : List 
 
 -- ---- a disk without a log
 
-pub unlogged_unsplit : (s : Shape) (u twin : List ℕ) → log_of u s.logs ≡ None → IsUnsplit s (command.Snapshot u twin)
-unlogged_unsplit s u twin none passes v w e = subst (λ (x : List ℕ). log_of x s.logs ≡ None) (let z : u ≡ v = (let q = e in cc) in z) none
+pub unlogged_carries : (s : Shape) (u twin : List ℕ) → log_of u s.logs ≡ None → CarriesLogs s (command.Snapshot u twin)
+unlogged_carries s u twin none passes = (
+  λ v w e. subst (λ (x : List ℕ). log_of x s.logs ≡ None) (let z : u ≡ v = (let q = e in cc) in z) none,
+  λ v on e. (let q = e in cc),
+)
 
 pub step_unlogged : (σ : State) (u twin : List ℕ) → log_of u σ.shape.logs ≡ None → tracked_step σ (command.Snapshot u twin) ≡ step σ (command.Snapshot u twin)
 step_unlogged σ u twin none = step_same σ (command.Snapshot u twin) (λ v sector bytes e. absurd (let q = e in cc)) (λ v sector count byte e. absurd (let q = e in cc)) (λ v e. absurd (let q = e in cc))
-    (λ v w e. subst (λ (x : List ℕ). log_of x σ.shape.logs ≡ None) (let z : u ≡ v = (let q = e in cc) in z) none)
+    (λ v w e. subst (λ (x : List ℕ). log_of x σ.shape.logs ≡ None) (let z : u ≡ v = (let q = e in cc) in z) none) (λ v on e. absurd (let q = e in cc))

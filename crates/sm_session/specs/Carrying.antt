@@ -7,7 +7,7 @@ use Rattle.sm_cbt.specs.Marks.{IsWithinLog}
 use Rattle.sm_log.specs.Logs.{log_of, on_log, touched}
 use Rattle.sm_machine.specs.Disks.{sector_bytes}
 use Rattle.sm_machine.specs.declared.commands.Command.{Command}
-use Rattle.sm_machine.specs.declared.commands.Command.TheVariants.{Create, Delete, Attach, Detach, Snapshot, Clone, Resize, Write, Fill, Read, Flush, Gc}
+use Rattle.sm_machine.specs.declared.commands.Command.TheVariants.{Create, Delete, Attach, Detach, Snapshot, Clone, Resize, Write, Fill, Read, Flush, Gc, Track, Changed}
 use Rattle.sm_ready.specs.Sessions.{IsReadyStore}
 use Rattle.sm_ready.specs.declared.memory.Memory.{Memory}
 use Rattle.cmd_guest.specs.Writing.{WritesOnly}
@@ -21,6 +21,12 @@ is_guests (Fill u sector count byte) = true
 is_guests (Read u sector count) = true
 is_guests (Flush u) = true
 is_guests _ = false
+
+-- what is done to logs alone, or asked of them: tracking of a disk begins or ends, and which pieces changed between two disks
+unfoldable pub is_of_logs : Command → Bool
+is_of_logs (Track u on) = true
+is_of_logs (Changed u n) = true
+is_of_logs _ = false
 
 -- a guest's write or fill works on the volume of its disk's own image alone, and puts there nothing but its bytes and what they need (`WritesOnly`); of another command this says nothing
 abbrev pub WritesOnlyIts : {S : Type 0} → Ghosts S → Memory → Command → S → S → Type 0
@@ -59,8 +65,10 @@ most_commits (Resize u size) = 4
 most_commits Gc = 5
 most_commits _ = 0
 
--- for logs: one is removed with its disk, and two make a snapshot's
+-- for logs: one is removed by one, as with its disk, and two make one, a snapshot's too
 unfoldable pub most_log_commits : Command → ℕ
 most_log_commits (Delete u) = 1
 most_log_commits (Snapshot u twin) = 2
+most_log_commits (Track u true) = 2
+most_log_commits (Track u false) = 1
 most_log_commits _ = 0

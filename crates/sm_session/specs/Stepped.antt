@@ -23,10 +23,12 @@ use Rattle.sm_ready.specs.Sessions.{state_in, store_state}
 use Rattle.sm_ready.specs.Stores.{Leaving, MayShow, StoreLeaves, content_in}
 use Rattle.sm_ready.specs.declared.memory.Memory.{Memory}
 use Rattle.sm_tracking.specs.Tracking.{IsLoggedBetween}
+use Rattle.sm_session.specs.Truth.{AreTold, LeavesTold}
 
--- The answer and the state are these, or memory was wanting and all is as it was; at an answer the sectors are as memory
--- says, and behind a command that makes all last nothing is pending; and whatever a stop leaves is kept, shows disks
--- between those from before and those from after, has logs between those of memory and those from after, and passes the check of logs.
+-- The answer and the state are these, or memory was wanting and all is as it was. At an answer the sectors are as memory
+-- says, and behind a command that makes all last nothing is pending. Whatever a stop leaves is kept, shows disks
+-- between those from before and those from after, has logs between those of memory and those from after, and passes the check of logs. What its
+-- logs tell is true of all that a stop may show, where what those of memory told was.
 pub record HasSteppedTo (o : Outcome) (s : Site) (command : Command) (t : VolumeTable) (area : Held) (m : Known) (u : VolumeTable) (now : Held) (n : Known) (before leaves : Leaving) (result : Result Reply Failed) : Type 0 where
   pub reply : IfOk result (λ r. ((r ≡ No NoMemory) × (state_in s u now n ≡ state_in s t area m)) ⊎ ((r ≡ o.reply) × (state_in s u now n ≡ o.after)))
   pub ready : OnOk result (IsReady s u now n)
@@ -35,6 +37,7 @@ pub record HasSteppedTo (o : Outcome) (s : Site) (command : Command) (t : Volume
       × IsBetween (MayShow s before) (state_in s t area m).disks o.after.disks (disks (content_in s v image))
   pub logged : (v : VolumeTable) (image : ℕ → List ℕ) → leaves v image → IsLoggedBetween (content_in s v image) m.logs o.after.shape.logs
   pub passes : (v : VolumeTable) (image : ℕ → List ℕ) → leaves v image → log_fault (content_in s v image) ≡ None
+  pub truthful : AreTold s before (state_in s t area m).shape → LeavesTold s leaves
 
 -- of a store with its memory: a call takes this command to what the machine makes of it, with what it does to logs
 abbrev pub StoreSteps : {S : Type 0} → Ghosts S → Command → S → Memory → S → Memory → Result Reply Failed → Type 0

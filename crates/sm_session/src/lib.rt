@@ -19,14 +19,17 @@
 //!
 //! The commands are those that make disks, also of one another, give them up, rename, resize and list them, the one that tells
 //! of the images, those of guests (`is_guests`): a disk comes into use and goes out of it, and its sectors are read, written,
-//! filled and made last; and the collector's. Why a command is refused is asked once, of `refuse` (`sm_refusals`), before the command
+//! filled and made last; those of logs alone (`is_of_logs`): tracking of a disk begins or ends, and which pieces changed between two disks is told;
+//! and the collector's. Why a command is refused is asked once, of `refuse` (`sm_refusals`), before the command
 //! is carried out: so a command's crate is called only where no cause was found. Between two steps each image in memory is true of
 //! its volume, whether or not the device was kept when it was opened: so a guest may always read and write.
 //!
-//! **Logs of tracked disks.** A write or a fill marks its pieces first, and the marks last before it begins; the log of a deleted disk goes behind the
-//! disk; and a snapshot of a tracked disk has a log, with the bits so far, and the disk's begins anew (`sm_tracking`). What a split needs is taken
-//! before the snapshot. Whatever a stop leaves has of each disk, by itself, the log from before the step, the one from after it, or one between. No clause says yet
-//! that the log of a deleted disk goes behind the disk, or that the snapshot comes before the split.
+//! **Logs of tracked disks.** Tracking begins with a log without bits, and ends by its removal. A write or a fill marks its pieces first, and the
+//! marks last before it begins; the log of a deleted disk goes behind the disk. A snapshot of a tracked disk has a log, with the bits so far, and
+//! the disk's begins anew (`sm_tracking`). What a split needs is taken before the snapshot. What changed between two disks is told of the logs in
+//! memory, and no call of the store is made. Whatever a stop leaves has of each disk, by itself, the log from before the step, the one from after it,
+//! or one between. What these logs tell is true of all that a stop may show, where what memory's logs told was (`truthful` of `HasSteppedTo`). That the
+//! log of a deleted disk goes behind the disk is said by no clause: a log that goes first loses what it told, and tells nothing that is not so.
 //!
 //! **The collector.** A step of it is the machine's next one, by table and memory (`gc_plan`). Each kind of step is a function of its
 //! own (`gc_coalesce`; `swap` of `gc_leaf`; `deflate` of `sm_space`): an image that nothing reads through is removed, a volume is cut

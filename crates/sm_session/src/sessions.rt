@@ -23,6 +23,7 @@ ghost use Rattle.sm_standing.specs.Dropped.{opening};
 ghost use Rattle.sm_standing.specs.Keeping.{HoldsWell};
 ghost use Rattle.sm_standing.specs.LogChecks.{first_place};
 ghost use Rattle.sm_standing.specs.Standing.{disks};
+ghost use Rattle.sm_session.specs.Truth.{AreTold, IsTruthful};
 
 use crate::taking::take;
 use gc_plan::ChildCounts;
@@ -90,6 +91,8 @@ impl<S: Store> Session<S> {
         ensures opened { IfOk result (λ s. S.told → HoldsWell (store_content S.Store store)
             → shape_in (S.site s.store) (table_alone (S.table s.store)) (known s.memory) ≡ opening (store_content S.Store store)) }
         ensures kept { IfOk result (λ s. S.told → HoldsWell (store_content S.Store store) → KeepsAll (S.site s.store) (StoreLeaves S.Store s.store)) }
+        ensures told { IfOk result (λ s. S.told → HoldsWell (store_content S.Store store) → IsTruthful (store_content S.Store store)
+            → AreTold (S.site s.store) (StoreLeaves S.Store s.store) (store_shape S.Store s.store s.memory)) }
         ensures begins { IfOk result (λ s. S.told → HoldsWell (store_content S.Store store)
             → BeginsSettled (store_state S.Store s.store s.memory) (MayShow (S.site s.store) (StoreLeaves S.Store s.store))) }
         ensures site_back { IfErr result (λ e. S.site e.1 ≡ S.site store) }
@@ -164,6 +167,7 @@ impl<S: Store> Steps for Session<S> {
     ghost use Rattle.sm_ready.specs.Stores.{MayShow, StoreLeaves};
     ghost use Rattle.sm_ready.specs.Does.{store_shape};
     ghost use Rattle.sm_machine.specs.Tracking.{AreGoodLogs};
+    ghost use Rattle.sm_session.specs.Truth.{AllTruthful, AreTold};
 
     ghost told = { S.told };
 
@@ -174,6 +178,10 @@ impl<S: Store> Steps for Session<S> {
     ghost ready = { λ s. (s.broken ≡ false) × IsReadyStore S.Store s.store s.memory × ∥ AreGoodLogs (store_shape S.Store s.store s.memory) ∥₁ };
 
     ghost kept = { λ s. KeepsAll (S.site s.store) (StoreLeaves S.Store s.store) };
+
+    ghost telling = { λ s. AreTold (S.site s.store) (StoreLeaves S.Store s.store) (store_shape S.Store s.store s.memory) };
+
+    ghost truthful = { λ s. AllTruthful (S.site s.store) (StoreLeaves S.Store s.store) };
 
     ghost held = { λ s. S.area s.store };
 
@@ -214,4 +222,6 @@ impl<S: Store> Steps for Session<S> {
     }
 
     ghost is_shape = { λ s. refl };
+
+    ghost tells_now = { λ s told ready telling. telling.left };
 }

@@ -20,7 +20,7 @@ ghost use Rattle.sm_ready.specs.Framing.{IsBetweenSteps, StepsOn};
 ghost use Rattle.sm_ready.specs.Sessions.{IsReadyStore};
 ghost use Rattle.sm_ready.specs.Taken.{StoreTakes};
 ghost use Rattle.sm_run.specs.Runs.{may_want_memory};
-ghost use Rattle.sm_session.specs.Carrying.{MarksAndWritesIts, WritesOnlyIts, most_commits, most_log_commits};
+ghost use Rattle.sm_session.specs.Carrying.{MarksAndWritesIts, WritesOnlyIts, is_of_logs, most_commits, most_log_commits};
 ghost use Rattle.sm_session.specs.Stepped.{StoreSteps};
 ghost use Rattle.sm_machine.specs.Tracking.{AreGoodLogs, logs_after};
 
@@ -28,7 +28,7 @@ use crate::collecting::gc;
 use crate::forks::{derive, snapshot};
 use crate::guests::serve;
 use crate::sizes::raise;
-use crate::tracking::untrack;
+use crate::tracking::{changed, track, untrack};
 use cmd_change::{delete, label};
 use cmd_create::{create, create_vhd};
 use cmd_list::{list, stat};
@@ -42,7 +42,7 @@ use sm_tracking::mark;
 use std::alloc::Global;
 use vg_volumes::Store;
 
-/// Carries out a command that no cause refuses. `now` is the stamp of an image that it makes.
+/// Carries out a command that no cause refuses and that is not one of logs alone. `now` is the stamp of an image that it makes.
 fn carry_out<S: Store>(
     alloc: Global,
     store: &mut S,
@@ -56,6 +56,7 @@ fn carry_out<S: Store>(
     requires buffer { (0 < pool.old.free) × (512 * (1 + (S.site store.old).geometry.block) ≤ pool.old.bytes) }
     requires children { image_limit ≤ length children.old }
     requires allowed { IsAllowed S.Store command.now store.old memory.old }
+    requires disks { is_of_logs command.now ≡ false }
     ensures step { StepsOn S.Store (most_commits command.now) store.old store.new }
     ensures cause { Counts S.Store result store.old store.new }
     ensures pool { pool.new ≡ pool.old }
@@ -110,7 +111,8 @@ fn carry_out<S: Store>(
 }
 
 /// Carries out a command that no cause refuses, with what it does to the log of its disk: pieces are marked before they are written, a deleted disk's
-/// log goes behind the disk, and the log of a disk is split behind its snapshot. `now` is the stamp of an image that it makes.
+/// log goes behind the disk, and the log of a disk is split behind its snapshot; and a command of logs alone. `now` is the stamp of an image that
+/// it makes.
 fn carry_tracked<S: Store>(
     alloc: Global,
     store: &mut S,
@@ -168,6 +170,8 @@ fn carry_tracked<S: Store>(
             Ok(reply)
         }
         Command::Snapshot { disk, twin } => snapshot(alloc, store, memory, disk, twin, now),
+        Command::Track { disk, on } => track(alloc, store, memory, disk, *on),
+        Command::Changed { from, to } => Ok(changed(alloc, memory, from, to)),
         _ => carry_out(alloc, store, memory, pool, children, command, now),
     }
 }

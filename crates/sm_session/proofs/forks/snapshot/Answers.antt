@@ -7,7 +7,8 @@ use Rattle.sm_ready.specs.Known.{shape_in}
 use Rattle.sm_ready.specs.Sessions.{store_state}
 use Rattle.sm_ready.proofs.TakenLaws.{is_told}
 use Rattle.sm_session.proofs.LoggedLaws.{poor_stepped, stepped_same}
-use Rattle.sm_session.proofs.SnapshotLaws.{step_unlogged, unlogged_unsplit}
+use Rattle.sm_session.proofs.SnapshotLaws.{step_unlogged, unlogged_carries}
+use Rattle.sm_session.proofs.ToldLaws.{snapshot_still}
 use Rattle.sm_session.proofs.forks.snapshot.Goals as goal
 
 none_of : (o : Option Log) → false ≡ is_some o → o ≡ None
@@ -25,5 +26,5 @@ unfolding shape_in
 returns-in-None-clause-taken g c = λ told ready good.
     let h = is_told g.S.Store c.args.store.now c.args.memory.now c.requires.session.orderly c.requires.session.usable told ready (g.met.S.Store.leaves_now c.args.store.now told c.requires.session.usable) in
     let none = none_of (log_of c.args.disk.now c.args.memory.now.logs) (ap is_some (sym c.in-None.is) ∙ c.in-Ok.ensures.tracked) in
-    stepped_same h good c.derive.new.memory (Snapshot c.args.disk.now c.args.twin.now) c.derive.result c.derive.ensures.step (unlogged_unsplit _ c.args.disk.now c.args.twin.now none) c.derive.ensures.logs
+    stepped_same h good c.derive.new.memory (Snapshot c.args.disk.now c.args.twin.now) c.derive.result c.derive.ensures.step (unlogged_carries _ c.args.disk.now c.args.twin.now none) (snapshot_still c.args.disk.now c.args.twin.now) c.derive.ensures.logs
     (step_unlogged (store_state g.S.Store c.args.store.now c.args.memory.now) c.args.disk.now c.args.twin.now none) (c.derive.ensures.taken told ready)

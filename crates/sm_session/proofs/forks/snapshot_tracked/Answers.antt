@@ -54,7 +54,7 @@ returns-in_err-split-clause-taken g c = λ told ready good.
     let ready_then = ready_behind g.S.Store c.args.store.now c.derive.new.store c.args.memory.now c.derive.new.memory (Snapshot c.args.disk.now c.args.twin.now) Done t site in
     subst (StoreSteps g.S.Store (Snapshot c.args.disk.now c.args.twin.now) c.args.store.now c.args.memory.now c.split.new.store c.split.new.memory) (sym e.1)
     (split_stopped h good c.args.disk.now c.args.twin.now c.requires.room.own c.requires.room.tracked c.requires.allowed c.derive.new.store c.derive.new.memory t site same c.args.room _ c.requires.room c.requires.twin.0 c.requires.twin.1
-    c.in_ok-other.ensures.session_still.orderly.table.sequence c.split.ensures.step (c.split.ensures.split told ready_then can) e.0)
+    c.in_ok-other.ensures.session_still.orderly.table.sequence c.split.ensures.step (c.split.ensures.split told ready_then can) (is_told g.S.Store c.derive.new.store c.derive.new.memory c.in_ok-other.ensures.session_still.orderly c.in_ok-other.ensures.session_still.usable told ready_then (g.met.S.Store.leaves_now c.derive.new.store told c.in_ok-other.ensures.session_still.usable)) e.0)
 
 -- ---- all was done
 
@@ -86,4 +86,5 @@ returns-clause-taken g c = λ told ready good.
     let ready_then = ready_behind g.S.Store c.args.store.now c.derive.new.store c.args.memory.now c.derive.new.memory (Snapshot c.args.disk.now c.args.twin.now) Done t site in
     let x = c.split.ensures.split told ready_then can in
     split_stepped h good c.args.disk.now c.args.twin.now c.requires.room.own c.requires.room.tracked c.requires.allowed c.derive.new.store c.derive.new.memory t site same c.args.room _ c.requires.room c.requires.twin.0 c.requires.twin.1
-    c.in_ok-other.ensures.session_still.orderly.table.sequence c.split.ensures.step x c.in_ok-split.was (c.split.ensures.step.site ∙ site) (c.in_ok-split.ensures.shape can) (x.ready c.in_ok-split.was)
+    c.in_ok-other.ensures.session_still.orderly.table.sequence c.split.ensures.step x
+    (is_told g.S.Store c.derive.new.store c.derive.new.memory c.in_ok-other.ensures.session_still.orderly c.in_ok-other.ensures.session_still.usable told ready_then (g.met.S.Store.leaves_now c.derive.new.store told c.in_ok-other.ensures.session_still.usable)) c.in_ok-split.was (c.split.ensures.step.site ∙ site) (c.in_ok-split.ensures.shape can) (x.ready c.in_ok-split.was)

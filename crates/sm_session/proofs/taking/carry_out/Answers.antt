@@ -85,7 +85,7 @@ returns-in-List-clause-taken g c = λ told ready.
     (taken_answered (is_told g.S.Store c.args.store.now c.args.memory.now c.requires.session.orderly c.requires.session.usable told ready (g.met.S.Store.leaves_now c.args.store.now told c.requires.session.usable)) _ listed (step_after (store_state g.S.Store a c.args.memory.now) c.requires.session.orderly.table.sequence) refl)
 
 pub serve-requires-clause-guests : goal.serve-requires-clause-guests
-serve-requires-clause-guests g c = others_guests c.args.command.now c.in_default.not-Create c.in_default.not-Delete c.in_default.not-Label c.in_default.not-Resize c.in_default.not-Snapshot c.in_default.not-Clone c.in_default.not-List c.in_default.not-Stat c.in_default.not-Gc
+serve-requires-clause-guests g c = others_guests c.args.command.now c.in_default.not-Create c.in_default.not-Delete c.in_default.not-Label c.in_default.not-Resize c.in_default.not-Snapshot c.in_default.not-Clone c.in_default.not-List c.in_default.not-Stat c.in_default.not-Gc c.requires.disks
 
 pub returns-then-raw-clause-spared : goal.returns-then-raw-clause-spared
 unfolding may_want_memory takes_memory

@@ -1,4 +1,4 @@
-use Rattle.std.proofs.Common.{arith, ◌≡◌, inl, inr, ◌+◌, ◌/◌, ℕ, List, length, None, Ok, true, refl, sym, ap, ◌∙◌, subst}
+use Rattle.std.proofs.Common.{arith, ◌≡◌, inl, inr, ◌+◌, ◌/◌, ℕ, List, length, None, IfOk, Ok, true, refl, sym, ap, ◌∙◌, subst}
 use Rattle.std.proofs.lemmas.Result.{err_from_is_err_and}
 use Rattle.vg_meta.specs.Roomy.{table_alone}
 use Rattle.sm_machine.specs.declared.commands.Command.TheVariants as command
@@ -17,12 +17,38 @@ use Rattle.sm_ready.specs.Sessions.{store_state}
 use Rattle.sm_ready.specs.Taken.{StoreTakes}
 use Rattle.sm_ready.proofs.FramingLaws.{more_steps, then_steps}
 use Rattle.sm_ready.proofs.TakenLaws.{is_told}
-use Rattle.sm_session.specs.Carrying.{most_commits, most_log_commits}
+use Rattle.sm_session.specs.Carrying.{is_of_logs, most_commits, most_log_commits}
 use Rattle.sm_session.specs.Stepped.{StoreSteps}
 use Rattle.sm_machine.specs.Steps.{step}
-use Rattle.sm_session.proofs.CarryLaws.{of_reply, on_ok, steps_stay, stopped_at}
-use Rattle.sm_session.proofs.LoggedLaws.{accepts, delete_rich, delete_unsplit, end_stepped, end_stopped, fits_log, logs_behind, logs_marked, marks_puts, marks_stepped, marks_stopped, marks_then, never_poor, no_marks, passes_marked, ready_behind, rich_refused, rich_spared, shape_end, shape_marked, some_sectors, state_marked, step_marked, step_same, stepped_same, stopped_same, write_of, write_unsplit}
+use Rattle.sm_session.proofs.CarryLaws.{of_reply, on_ok, steps_none, steps_stay, stopped_at}
+use Rattle.sm_session.proofs.LoggedLaws.{accepts, delete_carries, delete_rich, end_stepped, end_stopped, fits_log, logs_behind, logs_marked, marks_puts, marks_stepped, marks_stopped, marks_then, never_poor, no_marks, not_of_logs, nothing_put, passes_marked, ready_behind, rich_refused, rich_spared, shape_end, shape_marked, some_sectors, state_marked, step_marked, step_same, stepped_same, stopped_same, write_carries, write_of}
+use Rattle.sm_session.proofs.ToldLaws.{delete_still, no_write}
+use Rattle.sm_session.proofs.TrackLaws.{changed_stepped}
+use Rattle.sm_session.proofs.TruthLaws.{marks_grow}
 use Rattle.sm_session.proofs.taking.carry_tracked.Goals as goal
+
+-- ---- what is no command of logs alone
+
+pub carry_out-requires-clause-disks : goal.carry_out-requires-clause-disks
+unfolding is_of_logs
+carry_out-requires-clause-disks g c = ap is_of_logs c.in-Write.is
+
+pub carry_out-requires-in-Fill-clause-disks : goal.carry_out-requires-in-Fill-clause-disks
+unfolding is_of_logs
+carry_out-requires-in-Fill-clause-disks g c = ap is_of_logs c.in-Fill.is
+
+pub carry_out-requires-in-Delete-clause-disks : goal.carry_out-requires-in-Delete-clause-disks
+unfolding is_of_logs
+carry_out-requires-in-Delete-clause-disks g c = ap is_of_logs c.in-Delete.is
+
+pub carry_out-requires-in_default : goal.carry_out-requires-in_default
+carry_out-requires-in_default g c = record {
+  session = c.requires.session;
+  buffer = c.requires.buffer;
+  children = c.requires.children;
+  allowed = c.requires.allowed;
+  disks = not_of_logs c.args.command.now c.in_default.not-Track c.in_default.not-Changed;
+}
 
 -- ---- a write
 
@@ -38,8 +64,9 @@ returns-in_err-mark-in-Write-clause-taken g c = λ told ready good.
     subst (StoreSteps g.S.Store c.args.command.now c.args.store.now c.args.memory.now c.mark.new.store c.mark.new.memory) (sym e.1)
     (marks_stopped h good c.mark.ensures.works.stays.site
     (c.mark.ensures.marked told ready (fits_log c.args.command.now σ (write_of c.len.result c.in-Write.is (c.len.ensures ∙ c.bytes.inside.bytes.ok.0 ∙ ap (λ (xs : List ℕ). length xs) c.bytes.view_is)) c.requires.allowed c.requires.session.orderly.well_formed good)) c.args.command.now e.0
-    (steps_stay (most_commits c.args.command.now + most_log_commits c.args.command.now) (λ told usable t image. g.met.S.Store.leaves_now c.mark.new.store told usable t image) c.requires.session.usable c.mark.ensures.works.stays) (write_unsplit c.args.command.now σ (write_of c.len.result c.in-Write.is (c.len.ensures ∙ c.bytes.inside.bytes.ok.0 ∙ ap (λ (xs : List ℕ). length xs) c.bytes.view_is)))
-    (sym (logs_behind (store_state g.S.Store c.args.store.now c.args.memory.now) c.args.command.now c.requires.allowed ∙ logs_marked c.args.command.now σ (write_of c.len.result c.in-Write.is (c.len.ensures ∙ c.bytes.inside.bytes.ok.0 ∙ ap (λ (xs : List ℕ). length xs) c.bytes.view_is)))))
+    (steps_stay (most_commits c.args.command.now + most_log_commits c.args.command.now) (λ told usable t image. g.met.S.Store.leaves_now c.mark.new.store told usable t image) c.requires.session.usable c.mark.ensures.works.stays) (write_carries c.args.command.now σ (write_of c.len.result c.in-Write.is (c.len.ensures ∙ c.bytes.inside.bytes.ok.0 ∙ ap (λ (xs : List ℕ). length xs) c.bytes.view_is)))
+    (sym (logs_behind (store_state g.S.Store c.args.store.now c.args.memory.now) c.args.command.now c.requires.allowed ∙ logs_marked c.args.command.now σ (write_of c.len.result c.in-Write.is (c.len.ensures ∙ c.bytes.inside.bytes.ok.0 ∙ ap (λ (xs : List ℕ). length xs) c.bytes.view_is))))
+    (marks_grow c.in-Write.disk c.in-Write.sector (c.len.result / 512) c.args.memory.now.logs))
 
 pub carry_out-requires-clause-allowed : goal.carry_out-requires-clause-allowed
 carry_out-requires-clause-allowed g c =
@@ -86,7 +113,8 @@ returns-in_ok-mark-in-Write-clause-taken g c = λ told ready good.
     (ap (λ (z : _). step z c.args.command.now) (state_marked c.in-Write.disk c.in-Write.sector (c.len.result / 512) g.S.Store c.args.store.now c.mark.new.store c.args.memory.now c.mark.new.memory c.mark.ensures.works.stays c.mark.ensures.memory x.shown)
     ∙ step_marked (store_state g.S.Store c.args.store.now c.args.memory.now) c.args.command.now (write_of c.len.result c.in-Write.is (c.len.ensures ∙ c.bytes.inside.bytes.ok.0 ∙ ap (λ (xs : List ℕ). length xs) c.bytes.view_is)) c.requires.allowed)
     (rich_spared _ _ _ (never_poor c.args.command.now _ (write_of c.len.result c.in-Write.is (c.len.ensures ∙ c.bytes.inside.bytes.ok.0 ∙ ap (λ (xs : List ℕ). length xs) c.bytes.view_is))) c.carry_out.ensures.spared)
-    (then_steps (steps_stay 0 (λ told usable t image. g.met.S.Store.leaves_now c.mark.new.store told usable t image) c.requires.session.usable c.mark.ensures.works.stays) c.carry_out.ensures.step) (write_unsplit c.args.command.now σ (write_of c.len.result c.in-Write.is (c.len.ensures ∙ c.bytes.inside.bytes.ok.0 ∙ ap (λ (xs : List ℕ). length xs) c.bytes.view_is)))
+    c.in-Write.disk c.in-Write.sector (c.len.result / 512) (write_of c.len.result c.in-Write.is (c.len.ensures ∙ c.bytes.inside.bytes.ok.0 ∙ ap (λ (xs : List ℕ). length xs) c.bytes.view_is)) c.requires.allowed
+    (then_steps (steps_stay 0 (λ told usable t image. g.met.S.Store.leaves_now c.mark.new.store told usable t image) c.requires.session.usable c.mark.ensures.works.stays) c.carry_out.ensures.step) (write_carries c.args.command.now σ (write_of c.len.result c.in-Write.is (c.len.ensures ∙ c.bytes.inside.bytes.ok.0 ∙ ap (λ (xs : List ℕ). length xs) c.bytes.view_is)))
     (c.carry_out.ensures.logs ∙ ap (λ m. m.logs) c.mark.ensures.memory ∙ sym (logs_behind (store_state g.S.Store c.args.store.now c.args.memory.now) c.args.command.now c.requires.allowed ∙ logs_marked c.args.command.now σ (write_of c.len.result c.in-Write.is (c.len.ensures ∙ c.bytes.inside.bytes.ok.0 ∙ ap (λ (xs : List ℕ). length xs) c.bytes.view_is))))
     (c.carry_out.ensures.taken told (x.ready (c.in_ok-mark-in-Write.was)))
 
@@ -104,8 +132,9 @@ returns-in_err-mark-in-Fill-clause-taken g c = λ told ready good.
     subst (StoreSteps g.S.Store c.args.command.now c.args.store.now c.args.memory.now c.mark-in-Fill.new.store c.mark-in-Fill.new.memory) (sym e.1)
     (marks_stopped h good c.mark-in-Fill.ensures.works.stays.site
     (c.mark-in-Fill.ensures.marked told ready (fits_log c.args.command.now σ (inr (c.in-Fill.byte, c.in-Fill.is)) c.requires.allowed c.requires.session.orderly.well_formed good)) c.args.command.now e.0
-    (steps_stay (most_commits c.args.command.now + most_log_commits c.args.command.now) (λ told usable t image. g.met.S.Store.leaves_now c.mark-in-Fill.new.store told usable t image) c.requires.session.usable c.mark-in-Fill.ensures.works.stays) (write_unsplit c.args.command.now σ (inr (c.in-Fill.byte, c.in-Fill.is)))
-    (sym (logs_behind (store_state g.S.Store c.args.store.now c.args.memory.now) c.args.command.now c.requires.allowed ∙ logs_marked c.args.command.now σ (inr (c.in-Fill.byte, c.in-Fill.is)))))
+    (steps_stay (most_commits c.args.command.now + most_log_commits c.args.command.now) (λ told usable t image. g.met.S.Store.leaves_now c.mark-in-Fill.new.store told usable t image) c.requires.session.usable c.mark-in-Fill.ensures.works.stays) (write_carries c.args.command.now σ (inr (c.in-Fill.byte, c.in-Fill.is)))
+    (sym (logs_behind (store_state g.S.Store c.args.store.now c.args.memory.now) c.args.command.now c.requires.allowed ∙ logs_marked c.args.command.now σ (inr (c.in-Fill.byte, c.in-Fill.is))))
+    (marks_grow c.in-Fill.disk c.in-Fill.sector c.in-Fill.count c.args.memory.now.logs))
 
 pub carry_out-requires-in-Fill-clause-allowed : goal.carry_out-requires-in-Fill-clause-allowed
 carry_out-requires-in-Fill-clause-allowed g c =
@@ -152,7 +181,8 @@ returns-in_ok-mark-in-Fill-clause-taken g c = λ told ready good.
     (ap (λ (z : _). step z c.args.command.now) (state_marked c.in-Fill.disk c.in-Fill.sector c.in-Fill.count g.S.Store c.args.store.now c.mark-in-Fill.new.store c.args.memory.now c.mark-in-Fill.new.memory c.mark-in-Fill.ensures.works.stays c.mark-in-Fill.ensures.memory x.shown)
     ∙ step_marked (store_state g.S.Store c.args.store.now c.args.memory.now) c.args.command.now (inr (c.in-Fill.byte, c.in-Fill.is)) c.requires.allowed)
     (rich_spared _ _ _ (never_poor c.args.command.now _ (inr (c.in-Fill.byte, c.in-Fill.is))) c.carry_out-in-Fill.ensures.spared)
-    (then_steps (steps_stay 0 (λ told usable t image. g.met.S.Store.leaves_now c.mark-in-Fill.new.store told usable t image) c.requires.session.usable c.mark-in-Fill.ensures.works.stays) c.carry_out-in-Fill.ensures.step) (write_unsplit c.args.command.now σ (inr (c.in-Fill.byte, c.in-Fill.is)))
+    c.in-Fill.disk c.in-Fill.sector c.in-Fill.count (inr (c.in-Fill.byte, c.in-Fill.is)) c.requires.allowed
+    (then_steps (steps_stay 0 (λ told usable t image. g.met.S.Store.leaves_now c.mark-in-Fill.new.store told usable t image) c.requires.session.usable c.mark-in-Fill.ensures.works.stays) c.carry_out-in-Fill.ensures.step) (write_carries c.args.command.now σ (inr (c.in-Fill.byte, c.in-Fill.is)))
     (c.carry_out-in-Fill.ensures.logs ∙ ap (λ m. m.logs) c.mark-in-Fill.ensures.memory ∙ sym (logs_behind (store_state g.S.Store c.args.store.now c.args.memory.now) c.args.command.now c.requires.allowed ∙ logs_marked c.args.command.now σ (inr (c.in-Fill.byte, c.in-Fill.is))))
     (c.carry_out-in-Fill.ensures.taken told (x.ready (c.in_ok-mark-in-Fill.was)))
 
@@ -163,7 +193,7 @@ returns-in_err-reply-in-Delete-clause-taken g c = λ told ready good.
     let h = is_told g.S.Store c.args.store.now c.args.memory.now c.requires.session.orderly c.requires.session.usable told ready (g.met.S.Store.leaves_now c.args.store.now told c.requires.session.usable) in
     let e = err_from_is_err_and c.from_residual-in_err-reply-in-Delete.result c.from_residual-in_err-reply-in-Delete.ensures.1 in
     subst (StoreSteps g.S.Store c.args.command.now c.args.store.now c.args.memory.now c.carry_out-in-Delete.new.store c.carry_out-in-Delete.new.memory) (sym e.1)
-    (stopped_same h good c.carry_out-in-Delete.new.memory c.args.command.now e.0 c.carry_out-in-Delete.ensures.step (delete_unsplit c.args.command.now _ c.in-Delete.disk c.in-Delete.is) c.carry_out-in-Delete.ensures.logs c.requires.allowed (stopped_at g.S.Store c.args.store.now c.carry_out-in-Delete.new.store c.args.memory.now c.carry_out-in-Delete.new.memory c.args.command.now _ e.0 (c.carry_out-in-Delete.ensures.taken told ready)))
+    (stopped_same h good c.carry_out-in-Delete.new.memory c.args.command.now e.0 c.carry_out-in-Delete.ensures.step (delete_carries c.args.command.now _ c.in-Delete.disk c.in-Delete.is) (delete_still c.args.command.now c.in-Delete.disk c.in-Delete.is) c.carry_out-in-Delete.ensures.logs c.requires.allowed (stopped_at g.S.Store c.args.store.now c.carry_out-in-Delete.new.store c.args.memory.now c.carry_out-in-Delete.new.memory c.args.command.now _ e.0 (c.carry_out-in-Delete.ensures.taken told ready)))
 
 pub returns-in_err-reply-in-Delete-clause-step : goal.returns-in_err-reply-in-Delete-clause-step
 returns-in_err-reply-in-Delete-clause-step g c = more_steps (omega arith) c.carry_out-in-Delete.ensures.step
@@ -235,9 +265,9 @@ unfolding shape_in
 returns-in_default-clause-taken g c = λ told ready good.
     let h = is_told g.S.Store c.args.store.now c.args.memory.now c.requires.session.orderly c.requires.session.usable told ready (g.met.S.Store.leaves_now c.args.store.now told c.requires.session.usable) in
     stepped_same h good c.carry_out-in_default.new.memory c.args.command.now c.carry_out-in_default.result c.carry_out-in_default.ensures.step
-    (λ passes u twin is. absurd (c.in_default.not-Snapshot u twin is)) c.carry_out-in_default.ensures.logs
+    (λ passes. ((λ u twin is. absurd (c.in_default.not-Snapshot u twin is)), (λ u on is. absurd (c.in_default.not-Track u on is)))) (no_write c.args.command.now c.in_default.not-Write c.in_default.not-Fill) c.carry_out-in_default.ensures.logs
     (step_same (store_state g.S.Store c.args.store.now c.args.memory.now) c.args.command.now c.in_default.not-Write c.in_default.not-Fill c.in_default.not-Delete
-    (λ u twin is. absurd (c.in_default.not-Snapshot u twin is)))
+    (λ u twin is. absurd (c.in_default.not-Snapshot u twin is)) c.in_default.not-Track)
     (c.carry_out-in_default.ensures.taken told ready)
 
 -- ---- a snapshot
@@ -250,3 +280,32 @@ pub returns-in-Snapshot-clause-spared : goal.returns-in-Snapshot-clause-spared
 unfolding may_want_memory takes_memory
 returns-in-Snapshot-clause-spared g c = of_reply (λ r. r ≡ No NoMemory → may_want_memory (store_shape g.S.Store c.args.store.now c.args.memory.now) c.args.command.now ≡ true) c.snapshot.result
     (λ r e. subst (λ k. may_want_memory (store_shape g.S.Store c.args.store.now c.args.memory.now) k ≡ true) (sym c.in-Snapshot.is) refl)
+
+-- ---- tracking begins or ends
+
+pub returns-in-Track-clause-step : goal.returns-in-Track-clause-step
+unfolding most_commits
+returns-in-Track-clause-step g c = subst (λ k. StepsOn g.S.Store (most_commits k + most_log_commits k) c.args.store.now c.track.new.store) (sym c.in-Track.is) (more_steps (omega arith) c.track.ensures.step)
+
+pub returns-in-Track-clause-spared : goal.returns-in-Track-clause-spared
+unfolding may_want_memory
+returns-in-Track-clause-spared g c = subst (λ k. IfOk c.track.result (λ r. r ≡ No NoMemory → may_want_memory (store_shape g.S.Store c.args.store.now c.args.memory.now) k ≡ true)) (sym c.in-Track.is) c.track.ensures.spared
+
+-- ---- what changed
+
+pub returns-in-Changed-clause-step : goal.returns-in-Changed-clause-step
+returns-in-Changed-clause-step g c = steps_none g.S.Store (most_commits c.args.command.now + most_log_commits c.args.command.now) c.args.store.now (λ told usable t image. g.met.S.Store.leaves_now c.args.store.now told usable t image) c.requires.session.usable
+
+pub returns-in-Changed-clause-spared : goal.returns-in-Changed-clause-spared
+unfolding may_want_memory takes_memory
+returns-in-Changed-clause-spared g c = λ e. subst (λ k. may_want_memory (store_shape g.S.Store c.args.store.now c.args.memory.now) k ≡ true) (sym c.in-Changed.is) refl
+
+pub returns-in-Changed-clause-writes : goal.returns-in-Changed-clause-writes
+returns-in-Changed-clause-writes g c = nothing_put g.S.Store c.args.memory.now c.args.command.now c.args.store.now
+
+pub returns-in-Changed-clause-taken : goal.returns-in-Changed-clause-taken
+returns-in-Changed-clause-taken g c = λ told ready good.
+    let h = is_told g.S.Store c.args.store.now c.args.memory.now c.requires.session.orderly c.requires.session.usable told ready (g.met.S.Store.leaves_now c.args.store.now told c.requires.session.usable) in
+    subst (λ k. StoreSteps g.S.Store k c.args.store.now c.args.memory.now c.args.store.now c.args.memory.now (Ok c.changed.result)) (sym c.in-Changed.is)
+    (changed_stepped h good c.requires.session.tidy c.in-Changed.from c.in-Changed.to c.changed.result
+    (subst (λ k. refusal (store_shape g.S.Store c.args.store.now c.args.memory.now) k ≡ None) c.in-Changed.is c.requires.allowed) c.changed.ensures.changed)

@@ -1,4 +1,4 @@
-use Rattle.std.proofs.Common.{sym, subst}
+use Rattle.std.proofs.Common.{Ok, sym, subst}
 use Rattle.vg_meta.specs.Roomy.{table_alone}
 use Rattle.sm_machine.specs.Tracking.{AreGoodLogs}
 use Rattle.sm_ready.specs.Does.{store_shape}
@@ -11,6 +11,7 @@ use Rattle.sm_ready.proofs.TakenLaws.{IsTold, is_told}
 use Rattle.sm_session.proofs.sessions.SessionSteps.step.Given.{Over}
 use Rattle.std.proofs.lemmas.Bool.{true≢false}
 use Rattle.sm_session.proofs.GoodLaws.{good_stepped}
+use Rattle.sm_session.proofs.TellingLaws.{told_stepped, truthful_stepped}
 use Rattle.sm_session.proofs.sessions.SessionSteps.step.Goals as goal
 
 pub returns-in-Ok-clause-kept : goal.returns-in-Ok-clause-kept
@@ -68,4 +69,27 @@ returns-in-Ok-clause-ready g c = λ told ready.
       ready.0,
       subst (λ s. IsReady s (table_alone (g.S.Store.table c.take-taken.new.store)) (g.S.Store.area c.take-taken.new.store) (known c.take-taken.new.memory)) (sym e.step.site) t.ready,
       good_stepped g.S.Store was.store c.take-taken.new.store was.memory c.take-taken.new.memory c.args.command.now c.in-Ok.reply e.step.site (was.between c.if-self.false).orderly.well_formed ready.2 t,
+    )
+
+-- ---- what logs tell
+
+pub returns-in-Err-clause-truthful : goal.returns-in-Err-clause-truthful
+returns-in-Err-clause-truthful g c = λ told ready telling.
+    let e = c.take-taken.ensures in
+    let was = c.args.self.now in (
+      truthful_stepped g.S.Store was.store c.take-taken.new.store was.memory c.take-taken.new.memory c.args.command.now c.take-taken.result e.step.site telling (e.taken told ready.1 ready.2),
+      tt,
+    )
+
+pub returns-in-Ok-clause-truthful : goal.returns-in-Ok-clause-truthful
+returns-in-Ok-clause-truthful g c = λ told ready telling.
+    let e = c.in-Ok.ensures in
+    let t = e.taken told ready.1 ready.2 in
+    let was = c.args.self.now in
+    let between = was.between c.if-self.false in
+    let good = good_stepped g.S.Store was.store c.take-taken.new.store was.memory c.take-taken.new.memory c.args.command.now c.in-Ok.reply e.step.site between.orderly.well_formed ready.2 t in (
+      truthful_stepped g.S.Store was.store c.take-taken.new.store was.memory c.take-taken.new.memory c.args.command.now (Ok c.in-Ok.reply) e.step.site telling t,
+      told_stepped g.S.Store was.store c.take-taken.new.store was.memory c.take-taken.new.memory c.args.command.now c.in-Ok.reply e.step.site ready.2
+          (is_told g.S.Store was.store was.memory between.orderly between.usable told ready.1 (g.met.S.Store.leaves_now was.store told between.usable))
+          (told_after g c told ready.1 ready.2) good telling t,
     )
