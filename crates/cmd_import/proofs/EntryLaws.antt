@@ -20,7 +20,7 @@ use Rattle.sm_importing.specs.Disks.{target_of}
 use Rattle.sm_importing.specs.Imports.{MayImport}
 use Rattle.cmd_import.specs.Importing.{target_in}
 
-first_none : {A : Type 0} (b : Bool) (x : A) (rest : List (Option A)) → first_some (given b x ∷ rest) ≡ None → (b ≡ false) × (first_some rest ≡ None)
+pub first_none : {A : Type 0} (b : Bool) (x : A) (rest : List (Option A)) → first_some (given b x ∷ rest) ≡ None → (b ≡ false) × (first_some rest ≡ None)
 first_none true x rest e = cc
 first_none false x rest e = (refl, e)
 

@@ -45,11 +45,13 @@ use Rattle.lvhd_command.specs.declared.statuses.Status.{Status}
 use Rattle.lvhd_command.specs.declared.statuses.Status.TheVariants.{Done, Words, Device, Source, Sink, Refused, Memory, TooLong, Denied}
 use Rattle.lvhd_command.specs.declared.words.Form.TheVariants.{Export}
 use Rattle.lvhd_command.specs.declared.words.Wanted.{Wanted}
-use Rattle.lvhd_command.specs.Devices.{IsKeptDevice, IsOneTable, IsOpenedOn, IsSoundOn, StandsAlways, plate_at}
+use Rattle.lvhd_command.specs.Devices.{IsKeptDevice, IsOneTable, IsOpenedOn, IsSoundOn, IsTruthfulDevice, StandsAlways, plate_at}
 use Rattle.lvhd_command.specs.Exporting.{ContentSaid, ContentSent, ExportSent, ExportSaid, IsContentFile, IsFileOf, IsAsOpened, IsNotOpened, IsUnknown, LacksDisk, StandsAs, StandsOpened, export_status, unknown_line}
 use Rattle.lvhd_command.specs.Running.{HasSaid, HasStayed, HasTold, IsGivenBack, RunSides, ToldOf}
 use Rattle.lvhd_command.proofs.ExactLaws.{sound_or_refused}
 use Rattle.lvhd_command.proofs.OpenLaws.{content_once, kept_device, kept_sound, place_first, shown_device}
+use Rattle.lvhd_command.proofs.TruthLaws.{truthful_device}
+use Rattle.sm_session.specs.Truth.{AllTruthful}
 use Rattle.lvhd_command.proofs.RunLaws.{IsStateWith, fewer_after, reads_as}
 
 -- ---- the disk of a UUID, by what is in memory
@@ -184,6 +186,9 @@ module _ (size other : ℕ) (site : Site) (held new : Held) (t : VolumeTable) (f
 
   pub kept_opened : KeepsAll site (Left told site (LeavesGroup other held (plate_at site)) failed t (area_of site.layout held)) → IsKeptDevice size new
   kept_opened all = kept_device size new site always (λ u image l. all u image (before u image l))
+
+  pub truthful_opened : AllTruthful site (Left told site (LeavesGroup other held (plate_at site)) failed t (area_of site.layout held)) → IsTruthfulDevice size new
+  truthful_opened all = truthful_device size new site always (λ u image l. all u image (before u image l))
 
   pub stands_opened : (old : Held) (start : State) → Shows size (reads old) start.disks → IsOpenedOn size (reads old) start.shape → BeginsSettled start (MayShow site (Left told site (LeavesGroup other held (plate_at site)) failed t (area_of site.layout held)))
       → IsOneTable size site new t → IsStateWith site t (area_of site.layout held) start → plate_of size (reads old) ≡ Ok (plate_at site) → StandsOpened size old new

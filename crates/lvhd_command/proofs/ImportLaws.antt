@@ -34,7 +34,9 @@ use Rattle.lvhd_command.specs.declared.statuses.Status.{Status}
 use Rattle.lvhd_command.specs.declared.statuses.Status.TheVariants as status
 use Rattle.lvhd_command.specs.declared.words.Form.TheVariants.{Import}
 use Rattle.lvhd_command.specs.declared.words.Wanted.{Wanted}
-use Rattle.lvhd_command.specs.Devices.{IsKeptDevice, IsOneTable, IsOpenedOn, IsSoundOn, MayShowOn, StandsAlways, plate_at}
+use Rattle.lvhd_command.specs.Devices.{IsKeptDevice, IsOneTable, IsOpenedOn, IsSoundOn, IsTruthfulDevice, MayShowOn, StandsAlways, plate_at}
+use Rattle.lvhd_command.proofs.TruthLaws.{truthful_device}
+use Rattle.sm_session.specs.Truth.{AllTruthful}
 use Rattle.lvhd_command.specs.Importing.{CountedAs, HasAnswered, HasTried, ImportLeft, ImportTold, IsDenied, IsImportable, IsRefusedAtOnce, ShowsAs, denied_line}
 use Rattle.lvhd_command.specs.Running.{HasSaid, IsGivenBack, RunSides, ShowsOnly}
 use Rattle.lvhd_command.proofs.ExactLaws.{sound_or_refused}
@@ -125,6 +127,9 @@ module _ (size other : ℕ) (now site : Site) (held new : Held) (leaves before :
 
   pub kept_import : KeepsAll site leaves → IsKeptDevice size new
   kept_import keeps = kept_device size new site stands_import (λ t image l. keeps t image (left_before t image l))
+
+  pub truthful_import : AllTruthful site leaves → IsTruthfulDevice size new
+  truthful_import all = truthful_device size new site stands_import (λ t image l. all t image (left_before t image l))
 
   pub shows_import : ((ds : List Disk) → MayShow site before ds → IsSettledAs was ds) → (es : List Disk) → MayShowOn size new es → IsBetween (IsSettledAs was) was ends es
   shows_import begins es m =

@@ -4,8 +4,10 @@ pub mod ExportLaws
 pub mod FormatLaws
 pub mod FormattedLaws
 pub mod ImportLaws
+pub mod ImportTruth
 pub mod OpenLaws
 pub mod RunLaws
 pub mod SoundText
 pub mod UnsoundLaws
 pub mod TrialLaws
+pub mod TruthLaws

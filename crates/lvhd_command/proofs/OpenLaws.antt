@@ -96,7 +96,7 @@ shown_device size h site ds always m =
 -- ---- what stands as a read gives it at the entry
 
 -- the extents read as they did
-content_entry : (s : Site) (t : VolumeTable) (h now : Held) → Keeps (area_of s.layout h) (area_of s.layout now) → content_now s t (area_of s.layout now) ≡ content_in s t (extents_in s.layout (reads h))
+pub content_entry : (s : Site) (t : VolumeTable) (h now : Held) → Keeps (area_of s.layout h) (area_of s.layout now) → content_now s t (area_of s.layout now) ≡ content_in s t (extents_in s.layout (reads h))
 content_entry s t h now k = ap (content_in s t) (fun_ext (λ q. k.reads q))
 
 -- what no opening tests holds of the content where it holds on the device
@@ -159,7 +159,7 @@ abbrev LeavesAsBefore : Site → (VolumeTable → (ℕ → List ℕ) → Type 0)
 LeavesAsBefore s was is old = (t : VolumeTable) (image : ℕ → List ℕ) → is t image → was t image ⊎ IsRepairedFrom old (content_in s t image)
 
 -- an image whose extents are those of another
-same_extents : (size : ℕ) (h : Held) (site : Site) (t : VolumeTable) (image : ℕ → List ℕ) (was : LeavesGroup size h (plate_at site) t image)
+pub same_extents : (size : ℕ) (h : Held) (site : Site) (t : VolumeTable) (image : ℕ → List ℕ) (was : LeavesGroup size h (plate_at site) t image)
     → content_in site t image ≡ content_of (standing site was.pointer t) was.whole
 same_extents size h site t image was = ap (content_in site t) (fun_ext (λ q. was.sectors q))
 

@@ -1,5 +1,5 @@
 -- What a run of the program left on the device, from what its session left.
-use Rattle.std.proofs.Common.{◌≡◌, ◌≢◌, ◌⊎◌, inl, inr, ⊎_elim, ℕ, ◌+◌, ◌≤◌, Bool, List, [], Option, Result, Ok, Err, is_err, cond, refl, sym, ap, ap₂, subst, ◌∙◌, arith, true}
+use Rattle.std.proofs.Common.{◌≡◌, ◌≢◌, ◌⊎◌, inl, inr, ⊎_elim, ℕ, ◌+◌, ◌≤◌, Bool, List, [], ◌++◌, Option, Result, Ok, Err, is_err, cond, refl, sym, ap, ap₂, subst, ◌∙◌, arith, true}
 use Rattle.std.proofs.Math.Logic.{∥∥₁_elim}
 use Rattle.std.proofs.Math.Path.{fun_ext}
 use Rattle.std.proofs.Props.{props}
@@ -16,12 +16,14 @@ use Rattle.vg_store.specs.Openings.{IsAnswer}
 use Rattle.sm_script.specs.Pieces.{Writes}
 use Rattle.common_laws.proofs.Lists.{In-map}
 use Rattle.sm_machine.specs.Disks.{Disk}
+use Rattle.sm_machine.specs.Runs.{Turn}
 use Rattle.sm_machine.specs.Shapes.{ImageRow, is_image_of}
 use Rattle.sm_machine.specs.Steps.{State}
 use Rattle.sm_machine.specs.Tracking.{AreGoodLogs}
 use Rattle.sm_machine.specs.WellFormed.{HasImage, HasRecord, IsWellFormed}
 use Rattle.sm_machine.proofs.Attaches.{is_its_image}
 use Rattle.sm_machine.proofs.Changes.{list_any-some}
+use Rattle.sm_reached.specs.Reached.{NamesNoMore}
 use Rattle.vg_layout.specs.Opening.{plate_of}
 use Rattle.vg_layout.specs.Places.{area_place}
 use Rattle.vg_meta.specs.Tables.{VolumeTable}
@@ -43,7 +45,7 @@ use Rattle.sm_standing.specs.Shapes.{IsStateOf}
 use Rattle.sm_standing.specs.Standing.{disks}
 use Rattle.lvhd_command.specs.declared.statuses.Status.{Status}
 use Rattle.lvhd_command.specs.declared.statuses.Status.TheVariants.{Done, Words, Device, Source, Sink, Refused, Memory, TooLong, Denied}
-use Rattle.lvhd_command.specs.Devices.{IsOneTable, IsOpenedOn, IsSoundOn, IsRefusedOn, StandsAlways, plate_at}
+use Rattle.lvhd_command.specs.Devices.{IsKeptDevice, IsOneTable, IsOpenedOn, IsSoundOn, IsRefusedOn, IsTruthfulDevice, MayShowOn, StandsAlways, plate_at}
 use Rattle.lvhd_command.specs.Exporting.{StandsAs}
 use Rattle.lvhd_command.specs.Running.{RunSides, HasRunOn, HasStayed, ReadsAsState, EndsAs, ShowsOnly, IsGivenBack, ToldOf, HasTold, HasSaid, status_of}
 use Rattle.lvhd_command.specs.Texts.{line_of, fault_words}
@@ -128,9 +130,13 @@ pub has_run : (s : RunSides) (status : Status) (site : Site) (t : VolumeTable) (
     → IsSoundOn s.size (reads s.old) → Shows s.size (reads s.old) start.disks → IsOpenedOn s.size (reads s.old) start.shape
     → HasRun start end result s.had_left s.left s.had_got s.got (MayShow site (LeavesGroup s.size held (plate_at site))) Ready (KeepsAll site (LeavesGroup s.size held (plate_at site)))
     → IsGivenBack s.size site held s.new → (Ready → IsOneTable s.size site s.new t) → (Ready → IsStateWith site t (area_of site.layout held) end) → EndsAs result s.size s.new end status
-    → plate_of s.size (reads s.old) ≡ Ok (plate_at site) → HasRunOn s status
-has_run s status site t held start end result Ready sound shown opened run back one state ends labelled =
+    → plate_of s.size (reads s.old) ≡ Ok (plate_at site) → (IsTruthfulDevice s.size s.old → (turns : List Turn) → NamesNoMore start turns) → HasRunOn s status
+has_run s status site t held start end result Ready sound shown opened run back one state ends labelled more =
     let always = back.stands in
+    let did : HasRun start end result s.had_left s.left s.had_got s.got (MayShowOn s.size s.new) (ReadsAsState s.size s.new end) (IsKeptDevice s.size s.new) = run_as
+    (λ ds m. let w = shown_device s.size s.new site ds always m in record { table = w.table; image = w.image; left = back.fewer w.table w.image w.left; shown = w.shown })
+    (λ r. reads_as s.size site held s.new t end back (one r) (state r))
+    (λ keeps. kept_device s.size s.new site always (λ u image l. keeps u image (back.fewer u image l))) run in
     record {
       sound = sound;
       start = start;
@@ -138,10 +144,8 @@ has_run s status site t held start end result Ready sound shown opened run back 
       result = result;
       shown = shown;
       opened = opened;
-      did = run_as
-          (λ ds m. let w = shown_device s.size s.new site ds always m in record { table = w.table; image = w.image; left = back.fewer w.table w.image w.left; shown = w.shown })
-          (λ r. reads_as s.size site held s.new t end back (one r) (state r))
-          (λ keeps. kept_device s.size s.new site always (λ u image l. keeps u image (back.fewer u image l))) run;
+      did = did;
+      reached = λ truthful. more truthful (did.turns ++ did.pending);
       ends = ends;
       label = λ image allowed. (always image allowed).stands.labelled ∙ sym labelled;
     }
@@ -187,13 +191,13 @@ pub has_run_sized : (s : RunSides) (status : Status) (other : ℕ) (site : Site)
     → IsSoundOn s.size (reads s.old) → Shows s.size (reads s.old) start.disks → IsOpenedOn s.size (reads s.old) start.shape
     → HasRun start end result s.had_left s.left s.had_got s.got (MayShow site (Left told site (LeavesGroup other held (plate_at site)) failed t (area_of site.layout held))) Ready (KeepsAll site (Left told site (LeavesGroup other held (plate_at site)) failed t (area_of site.layout held)))
     → IsGivenBack other site held s.new → (Ready → IsOneTable other site s.new t) → (Ready → IsStateWith site t (area_of site.layout held) end) → EndsAs result s.size s.new end status
-    → plate_of s.size (reads s.old) ≡ Ok (plate_at site) → HasRunOn s status
-has_run_sized s status other site t held start end result Ready told failed is_size sound shown opened run back one state ends labelled =
+    → plate_of s.size (reads s.old) ≡ Ok (plate_at site) → (IsTruthfulDevice s.size s.old → (turns : List Turn) → NamesNoMore start turns) → HasRunOn s status
+has_run_sized s status other site t held start end result Ready told failed is_size sound shown opened run back one state ends labelled more =
     let leaves = LeavesGroup other held (plate_at site) in
     let by_group = run_as (λ ds m. record { table = m.table; image = m.image; left = inl m.left; shown = m.shown }) (λ r. r) (λ keeps u image l. keeps u image (inl l)) run in
     has_run s status site t held start end result Ready sound shown opened
     (subst (λ n. HasRun start end result s.had_left s.left s.had_got s.got (MayShow site (LeavesGroup n held (plate_at site))) Ready (KeepsAll site (LeavesGroup n held (plate_at site)))) is_size by_group)
-    (subst (λ n. IsGivenBack n site held s.new) is_size back) (λ r. subst (λ n. IsOneTable n site s.new t) is_size (one r)) state ends labelled
+    (subst (λ n. IsGivenBack n site held s.new) is_size back) (λ r. subst (λ n. IsOneTable n site s.new t) is_size (one r)) state ends labelled more
 
 -- a device that was handed back as it was
 pub back_itself : (size : ℕ) (site : Site) (held : Held) → StandsAlways size held site → IsGivenBack size site held held

@@ -1,4 +1,5 @@
--- What a stop of a device may show, and when a device is kept: whatever it leaves opens again (this project's format).
+-- What a stop of a device may show, when a device is kept: whatever it leaves opens again, and when it is truthful: what the logs of tracked disks
+-- tell of whatever it leaves is true (this project's format).
 use Rattle.std.specs.Prelude.{◌≡◌, ℕ, List, None, Some}
 use Rattle.sm_base.specs.declared.faults.OpenFault.{OpenFault}
 use Rattle.sm_base.specs.declared.faults.OpenFault.TheVariants.{Damaged}
@@ -15,6 +16,7 @@ use Rattle.sm_standing.specs.Devices.{IsKeptOn, Shows, content_of}
 use Rattle.sm_standing.specs.Dropped.{opening}
 use Rattle.sm_standing.specs.Keeping.{HoldsWell}
 use Rattle.sm_standing.specs.LogChecks.{first_place}
+use Rattle.sm_session.specs.Truth.{IsTruthful}
 
 -- each image that the device allows is kept
 abbrev pub IsKeptDevice : ℕ → Held → Type 0
@@ -23,6 +25,14 @@ IsKeptDevice size h = (image : ℕ → List ℕ) → Allows size h image → IsK
 -- of what stands on the image that holds which no opening tests
 abbrev pub HoldsWellOn : ℕ → (ℕ → List ℕ) → Type 0
 HoldsWellOn size image = (g : GroupFound) → StandsOn size image g → HoldsWell (content_of g image)
+
+-- the logs of tracked disks that stand on the image are true of the disks that stand there
+abbrev pub IsTruthfulOn : ℕ → (ℕ → List ℕ) → Type 0
+IsTruthfulOn size image = (g : GroupFound) → StandsOn size image g → IsTruthful (content_of g image)
+
+-- each image that the device allows is truthful
+abbrev pub IsTruthfulDevice : ℕ → Held → Type 0
+IsTruthfulDevice size h = (image : ℕ → List ℕ) → Allows size h image → IsTruthfulOn size image
 
 -- a stop of the device may show these disks
 pub record MayShowOn (size : ℕ) (h : Held) (ds : List Disk) : Type 0 where

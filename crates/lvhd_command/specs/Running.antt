@@ -1,6 +1,6 @@
 -- What the program did where it was told to run a script, by its status (this project's format). The premise is a device
 -- that is kept: whatever a stop leaves of it opens again.
-use Rattle.std.specs.Prelude.{◌≡◌, ◌≢◌, ◌≤◌, ◌⊎◌, ◌*◌, ℕ, List, [], ⊤, Option, Result, Ok, Err}
+use Rattle.std.specs.Prelude.{◌≡◌, ◌≢◌, ◌≤◌, ◌⊎◌, ◌*◌, ℕ, List, [], ◌++◌, ⊤, Option, Result, Ok, Err}
 use Rattle.sm_base.specs.declared.faults.OpenFault.{OpenFault}
 use Rattle.sm_base.specs.declared.faults.OpenFault.TheVariants as opening
 use Rattle.sm_base.specs.Kinds.{is_entry}
@@ -8,6 +8,7 @@ use Rattle.sm_disk.specs.Held.{Held, Allows, IsSettled, Keeps, Rose, reads}
 use Rattle.sm_disk.specs.Streams.{Adds, AddsFront}
 use Rattle.sm_machine.specs.Disks.{Disk}
 use Rattle.sm_machine.specs.Steps.{State}
+use Rattle.sm_reached.specs.Reached.{NamesNoMore}
 use Rattle.vg_layout.specs.Opening.{GroupFound, StandsOn, plate_of}
 use Rattle.vg_layout.specs.Sectors.{Plate}
 use Rattle.vg_meta.specs.Tables.{VolumeTable}
@@ -22,7 +23,7 @@ use Rattle.sm_standing.specs.Shapes.{IsStateOf}
 use Rattle.sm_ready.specs.Known.{entry_of}
 use Rattle.lvhd_command.specs.declared.statuses.Status.{Status}
 use Rattle.lvhd_command.specs.declared.statuses.Status.TheVariants.{Done, Words, Device, Source, Sink, Refused, Memory, TooLong, Denied}
-use Rattle.lvhd_command.specs.Devices.{IsKeptDevice, MayShowOn, IsSoundOn, IsRefusedOn, IsOpenedOn, StandsAlways, plate_at}
+use Rattle.lvhd_command.specs.Devices.{IsKeptDevice, MayShowOn, IsSoundOn, IsRefusedOn, IsOpenedOn, IsTruthfulDevice, StandsAlways, plate_at}
 use Rattle.lvhd_command.specs.Texts.{line_of, fault_words}
 
 -- the device's size, what it held before and holds now; what the source had left before and has left now; what the sink
@@ -86,7 +87,7 @@ MayHaveLabel size old new = (image : ℕ → List ℕ) → Allows size new image
 
 -- The repository was opened, with the disks that a read gave at the entry and the shape that an opening makes of what stood
 -- there, and the script was run: what was read and answered, and what a stop may show now. The label stays, with the
--- repository's UUID, its sizes and the number of its extents.
+-- repository's UUID, its sizes and the number of its extents. Where what the logs told was true, they name no piece too many.
 pub record HasRunOn (s : RunSides) (status : Status) : Type 0 where
   pub sound : IsSoundOn s.size (reads s.old)
   pub start : State
@@ -95,6 +96,7 @@ pub record HasRunOn (s : RunSides) (status : Status) : Type 0 where
   pub shown : Shows s.size (reads s.old) start.disks
   pub opened : IsOpenedOn s.size (reads s.old) start.shape
   pub did : HasRun start end result s.had_left s.left s.had_got s.got (MayShowOn s.size s.new) (ReadsAsState s.size s.new end) (IsKeptDevice s.size s.new)
+  pub reached : IsTruthfulDevice s.size s.old → NamesNoMore start (did.turns ++ did.pending)
   pub ends : EndsAs result s.size s.new end status
   pub label : HasLabel s.size s.old s.new
 

@@ -1,6 +1,6 @@
 //! The word `import`.
 
-ghost use Rattle.std.specs.Prelude.{◌≡◌, ◌≢◌, ◌≤◌, ◌⊎◌, false, Some};
+ghost use Rattle.std.specs.Prelude.{◌≡◌, ◌≢◌, ◌≤◌, ◌⊎◌, false, Some, ℕ, List};
 ghost use Rattle.sm_base.specs.declared.refusals.Refusal.{Refusal};
 ghost use Rattle.sm_disk.specs.Held.{IsSettled, Keeps, Rose};
 ghost use Rattle.sm_ready.specs.Sessions.{IsAtEase};
@@ -8,7 +8,8 @@ ghost use Rattle.sm_ready.specs.Stores.{MayShow};
 ghost use Rattle.sm_refusals.specs.Importing.{entry_refusal};
 ghost use Rattle.sm_run.specs.Runs.{BeginsSettled};
 ghost use Rattle.lvhd_command.specs.declared.statuses.Status.TheVariants.{Device, Done, Sink as SinkFailed, Source as SourceFailed, Words};
-ghost use Rattle.lvhd_command.specs.Devices.{IsKeptDevice, StandsAlways, beside_at};
+ghost use Rattle.lvhd_command.specs.Devices.{IsKeptDevice, IsTruthfulDevice, StandsAlways, beside_at};
+ghost use Rattle.sm_session.specs.Truth.{AreTold};
 ghost use Rattle.lvhd_command.specs.Importing.{CountedAs, HasAnswered, ImportDid, ImportLeft, ImportTold, IsRefusedAtOnce};
 ghost use Rattle.lvhd_command.specs.Sessions.{IsReadySession, KeepsSession, session_leaves, site_of, state_of};
 ghost use Rattle.lvhd_command.specs.Running.{sides};
@@ -77,6 +78,8 @@ fn make_disk<D: Disk, S: Source, K: Sink>(
     ensures beside { D.told → Keeps (beside_at (site_of session) (D.held session.store.inner.disk)) (beside_at (site_of session) (D.held result.1)) }
     ensures stands { D.told → StandsAlways (D.size result.1) (D.held result.1) (site_of session) }
     ensures kept { D.told → IsReadySession session → KeepsSession session → IsKeptDevice (D.size result.1) (D.held result.1) }
+    ensures truthful { (bytes : List ℕ) → S.content source.old ≡ Some bytes → D.told → IsReadySession session → AreTold (site_of session) (session_leaves session) (state_of session).shape
+        → IsTruthfulDevice (D.size result.1) (D.held result.1) }
     ensures told { ImportTold (state_of session).shape uuid.now (S.content source.old) (K.content sink.old) (K.content sink.new) result.0 }
     ensures left { D.told → IsReadySession session → BeginsSettled (state_of session) (MayShow (site_of session) (session_leaves session))
         → ImportLeft (state_of session) uuid.now (D.size session.store.inner.disk) (D.held result.1) (S.content source.old) (S.content source.new) result.0 }

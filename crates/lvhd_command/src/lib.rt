@@ -6,7 +6,8 @@
 //!
 //! **The model** (`specs/`). `Words` says what the words ask for, `Texts` the lines that the program prints of itself,
 //! `Statuses` the exit status. `Devices`: a device is kept where each image that a stop may leave of it opens again
-//! (`IsKeptDevice`), and it may show the disks of each such image (`MayShowOn`). `Sessions`: the site, the table, the content and the state of
+//! (`IsKeptDevice`), it may show the disks of each such image (`MayShowOn`), and it is truthful where what logs tell of each such image is true
+//! (`IsTruthfulDevice`). `Sessions`: the site, the table, the content and the state of
 //! an open session. `Formatting`, `Running`, `Trials`, `Exporting` and `Importing` say by status what each word did.
 //!
 //! **What it promises.** [`lvhd`] on a device that tells its content and is kept, with the word `run`, at every return: the
@@ -17,6 +18,10 @@
 //! machine's disks alone; a read gives them, and no record of no disk. The label's sizes and UUID stay, and so does all that stands on the
 //! device beside the repository (`KeepsBeside`). A repository of version 1 is taken over by version 2 as it is opened: the same group
 //! stands on whatever a stop leaves, by the one or by the other.
+//!
+//! Where what the logs of tracked disks tell was true at the entry, it is true at every return, whatever a stop leaves (`truthful`,
+//! `IsTruthfulDevice`). It is so of what a format leaves ([`law_formatted`]) and where no disk is tracked ([`law_untracked`]). Behind each line of such a run no piece is told of two
+//! snapshots that the run made which no accepted write or fill between them reached (`NamesNoMore`).
 //!
 //! On a device on which a check of an opening fails, kept or not, one line says why, nothing is read of the script, and
 //! nothing is written, whatever the status (`HasStayed`). A kept device that was not opened for another cause shows nothing
@@ -66,7 +71,7 @@ mod words;
 
 pub use exporting::run_export;
 pub use formatting::run_format;
-pub use laws::{law_exact, law_formatted};
+pub use laws::{law_exact, law_formatted, law_untracked};
 pub use opening::open;
 pub use running::run_script;
 pub use statuses::Status;

@@ -15,7 +15,8 @@ ghost use Rattle.sm_ready.specs.Sessions.{IsAtEase};
 ghost use Rattle.sm_ready.specs.Stores.{MayShow};
 ghost use Rattle.sm_recover.specs.Repairs.{UnlessDeviceFailed};
 ghost use Rattle.sm_run.specs.Runs.{BeginsSettled};
-ghost use Rattle.lvhd_command.specs.Devices.{HoldsWellOn, IsKeptDevice, IsSoundOn, IsRefusedOn, IsOpenedOn, plate_at};
+ghost use Rattle.lvhd_command.specs.Devices.{HoldsWellOn, IsKeptDevice, IsSoundOn, IsRefusedOn, IsOpenedOn, IsTruthfulDevice, IsTruthfulOn, plate_at};
+ghost use Rattle.sm_session.specs.Truth.{AreTold};
 ghost use Rattle.lvhd_command.specs.Running.{ShowsNothingNew, KeepsBeside, MayHaveLabel};
 ghost use Rattle.lvhd_command.specs.Sessions.{IsReadySession, KeepsSession, session_leaves, site_of, state_of};
 
@@ -55,6 +56,8 @@ pub fn open<D: Disk>(
         → IsOpenedOn (D.size disk) (reads (D.held disk)) (state_of s).shape) }
     ensures label { IfOk result (λ s. D.told → plate_of (D.size disk) (reads (D.held disk)) ≡ Ok (plate_at (site_of s))) }
     ensures kept { IfOk result (λ s. D.told → HoldsWellOn (D.size disk) (reads (D.held disk)) → KeepsSession s) }
+    ensures telling { IfOk result (λ s. D.told → HoldsWellOn (D.size disk) (reads (D.held disk)) → IsTruthfulOn (D.size disk) (reads (D.held disk))
+        → AreTold (site_of s) (session_leaves s) (state_of s).shape) }
     ensures begins { IfOk result (λ s. D.told → HoldsWellOn (D.size disk) (reads (D.held disk))
         → BeginsSettled (state_of s) (MayShow (site_of s) (session_leaves s))) }
     ensures beside { IfOk result (λ s. D.told → KeepsBeside (D.size disk) (D.held disk) (D.held s.store.inner.disk)) }
@@ -67,6 +70,8 @@ pub fn open<D: Disk>(
     ensures beside_back { IfErr result (λ e. D.told → KeepsBeside (D.size disk) (D.held disk) (D.held e.1)) }
     ensures label_back { IfErr result (λ e. D.told → MayHaveLabel (D.size disk) (D.held disk) (D.held e.1)) }
     ensures kept_back { IfErr result (λ e. D.told → IsKeptDevice (D.size disk) (D.held disk) → IsKeptDevice (D.size disk) (D.held e.1)) }
+    ensures truthful_back { IfErr result (λ e. D.told → HoldsWellOn (D.size disk) (reads (D.held disk)) → IsTruthfulDevice (D.size disk) (D.held disk)
+        → IsTruthfulDevice (D.size disk) (D.held e.1)) }
     ensures shown_back { IfErr result (λ e. D.told → HoldsWellOn (D.size disk) (reads (D.held disk))
         → ShowsNothingNew (D.size disk) (D.held disk) (D.held e.1)) }
 {

@@ -4,7 +4,7 @@ ghost use Rattle.std.specs.Prelude.{◌≡◌, ◌≢◌, ◌≤◌, ◌⊎◌, 
 ghost use Rattle.sm_base.specs.declared.faults.OpenFault.{OpenFault};
 ghost use Rattle.sm_disk.specs.Held.{IsSettled, Keeps, Rose, reads};
 ghost use Rattle.lvhd_command.specs.declared.statuses.Status.TheVariants.{Done, Device, Memory, Refused, Sink as SinkFailed, Source as SourceFailed, Words};
-ghost use Rattle.lvhd_command.specs.Devices.{IsKeptDevice, IsOneTable, IsRefusedOn, StandsAlways};
+ghost use Rattle.lvhd_command.specs.Devices.{IsKeptDevice, IsOneTable, IsRefusedOn, IsTruthfulDevice, StandsAlways};
 ghost use Rattle.lvhd_command.specs.Running.{RunDid, HasStayed, IsGivenBack, KeepsBeside, ShowsOnly, HasTold, sides, status_of};
 ghost use Rattle.lvhd_command.specs.Sessions.{IsReadySession, site_of, state_of, table_of};
 
@@ -43,6 +43,7 @@ pub fn run_script<D: Disk, S: Source, K: Sink>(
     ensures sink_calm { result.0 ≢ SinkFailed → K.faults sink.new ≡ K.faults sink.old }
     ensures did { D.told → IsKeptDevice (D.size disk) (D.held disk)
         → RunDid (sides D.size D.held S.content K.content disk result.1 source.old source.new sink.old sink.new) result.0 }
+    ensures truthful { D.told → IsKeptDevice (D.size disk) (D.held disk) → IsTruthfulDevice (D.size disk) (D.held disk) → IsTruthfulDevice (D.size disk) (D.held result.1) }
     ensures beside { D.told → KeepsBeside (D.size disk) (D.held disk) (D.held result.1) }
     ensures refused { D.told → (result.0 ≡ Refused) ⊎ (result.0 ≡ Memory)
         → HasStayed (sides D.size D.held S.content K.content disk result.1 source.old source.new sink.old sink.new) result.0 }

@@ -10,7 +10,7 @@ ghost use Rattle.lvhd_command.specs.declared.statuses.Status.TheVariants as stat
 ghost use Rattle.lvhd_command.specs.declared.words.Form.TheVariants.{Format, Run, Trial, Export, Import};
 ghost use Rattle.lvhd_command.specs.declared.words.Request.{Request};
 ghost use Rattle.lvhd_command.specs.declared.words.Wanted.{Wanted};
-ghost use Rattle.lvhd_command.specs.Devices.{IsKeptDevice, IsRefusedOn};
+ghost use Rattle.lvhd_command.specs.Devices.{IsKeptDevice, IsRefusedOn, IsTruthfulDevice};
 ghost use Rattle.lvhd_command.specs.Exporting.{ExportDid, IsUnknown, export_sides};
 ghost use Rattle.lvhd_command.specs.Importing.{ImportDid, IsImportable, IsRefusedAtOnce};
 ghost use Rattle.lvhd_command.specs.Formatting.{FormatDid, CannotFormat, KeepsBesideNew, asked, format_sides};
@@ -69,6 +69,8 @@ pub fn lvhd<D: Disk, S: Source, K: Sink>(
         → KeepsBesideNew (D.size disk) (asked request) (D.held disk) (D.held result.1) }
     ensures run { Asks words.now (Some Run) → D.told → IsKeptDevice (D.size disk) (D.held disk)
         → RunDid (sides D.size D.held S.content K.content disk result.1 source.old source.new sink.old sink.new) result.0 }
+    ensures truthful { Asks words.now (Some Run) → D.told → IsKeptDevice (D.size disk) (D.held disk) → IsTruthfulDevice (D.size disk) (D.held disk)
+        → IsTruthfulDevice (D.size disk) (D.held result.1) }
     ensures beside { Asks words.now (Some Run) → D.told → KeepsBeside (D.size disk) (D.held disk) (D.held result.1) }
     ensures refused { Asks words.now (Some Run) → D.told → (result.0 ≡ status.Refused) ⊎ (result.0 ≡ status.Memory)
         → HasStayed (sides D.size D.held S.content K.content disk result.1 source.old source.new sink.old sink.new) result.0 }

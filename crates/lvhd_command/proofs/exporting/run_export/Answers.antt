@@ -1,5 +1,6 @@
 use Rattle.std.proofs.Common.{inl, refl, ◌∙◌, subst, arith}
-use Rattle.sm_disk.specs.Held.{HasSectors, Keeps}
+use Rattle.sm_disk.proofs.HeldLaws.{Allows-reads}
+use Rattle.sm_disk.specs.Held.{HasSectors, Keeps, reads}
 use Rattle.sm_ready.specs.Known.{known}
 use Rattle.sm_standing.specs.Contents.{Content}
 use Rattle.vg_meta.specs.Tables.{VolumeTable}
@@ -10,7 +11,7 @@ use Rattle.lvhd_command.specs.Exporting.{export_sides}
 use Rattle.lvhd_command.specs.Running.{HasStayed, RunSides}
 use Rattle.lvhd_command.specs.Sessions.{content_read, site_of, state_of, table_of}
 use Rattle.lvhd_command.proofs.ExactLaws.{sound_or_refused}
-use Rattle.lvhd_command.proofs.ExportLaws.{closed_said, opened_said, HoldsContent, back_read, did_of, did_refused, few_said, few_told, kept_opened, said_export, said_of, stands_opened}
+use Rattle.lvhd_command.proofs.ExportLaws.{closed_said, opened_said, HoldsContent, back_read, did_of, did_refused, few_said, few_told, kept_opened, said_export, said_of, stands_opened, truthful_opened}
 use Rattle.lvhd_command.proofs.OpenLaws.{kept_sound, kept_well}
 use Rattle.lvhd_command.proofs.RunLaws.{has_stayed, kept_off, left_of, refused_calm, refused_sink_calm, said_refused, session_state, stands_back}
 use Rattle.lvhd_command.proofs.UnsoundLaws.{beside_last}
@@ -47,6 +48,8 @@ returns-in-Ok-clause-did g c = λ told.
       unsound = λ f on. absurd (sound_or_refused _ _ f (e.sound told) on);
       sent = λ k. did_of s content c.args.wanted.now.disk c.args.now c.send_disk.result.0 (holds k) (omega (arith, c.ranges.now.fits)) (c.send_disk.ensures.sent told (e.ready told (kept_well s.size s.old k)));
       kept = kept;
+      truthful = λ k truthful. truthful_opened s.size n site held s.new t m.store.inner.failed g.D.Disk.told e.size keeps always
+          (e.telling told (kept_well s.size s.old k) (truthful (reads s.old) (Allows-reads s.size s.old))).left;
       opened = λ k.
           let slots = kept_well s.size s.old k in
           opened_said s.size s.old s.new s.had_got s.got c.send_disk.result.0 c.send_disk.ensures.said
@@ -73,6 +76,7 @@ returns-in-Err-clause-did g c = λ told.
       unsound = λ f on. stayed (e.unsound told f on);
       sent = λ k. did_refused s c.args.wanted.now.disk c.args.now c.refuse.result (kept_sound s.size s.old k) said;
       kept = e.kept_back told;
+      truthful = λ k. e.truthful_back told (kept_well s.size s.old k);
       opened = λ k. closed_said s.size s.old s.new c.in-Err.fault _ _ _ _ c.refuse.result c.refuse.ensures (record {
         shown = e.shown_back told (kept_well s.size s.old k);
         label = e.label_back told;

@@ -6,10 +6,11 @@ use Rattle.sm_ready.specs.Known.{known}
 use Rattle.vg_meta.specs.Roomy.{table_alone}
 use Rattle.vg_store.proofs.BesideLaws.{beside_kept}
 use Rattle.vg_volumes.specs.Sites.{Site, area_size}
-use Rattle.lvhd_command.specs.Devices.{IsKeptDevice, StandsAlways, beside_at}
+use Rattle.lvhd_command.specs.Devices.{IsKeptDevice, IsTruthfulDevice, StandsAlways, beside_at}
 use Rattle.lvhd_command.specs.Importing.{CountedAs, ImportLeft}
 use Rattle.lvhd_command.specs.Sessions.{session_leaves, site_of, state_of}
-use Rattle.lvhd_command.proofs.ImportLaws.{counted_answer, counted_made, kept_import, left_made, left_unmade, shows_import, shows_made, stands_after, told_answer, told_made}
+use Rattle.lvhd_command.proofs.ImportLaws.{counted_answer, counted_made, kept_import, left_made, left_unmade, shows_import, shows_made, stands_after, told_answer, told_made, truthful_import}
+use Rattle.lvhd_command.proofs.ImportTruth.{imported_truthful}
 use Rattle.lvhd_command.proofs.importing.make_disk.Goals as goal
 
 pub import-answer-requires-clause-session : goal.import-answer-requires-clause-session
@@ -194,3 +195,40 @@ returns-in-Ok-clause-left g c = λ told ready begins.
     let only = shows_made size (g.D.Disk.size n) _ (site_of s) (g.D.Disk.held n) new _ (session_leaves s) σ.disks i.ends (ap (λ (x : Site). x.sectors) site_is) site_is (keeps told) (stands told) (λ t image l. inl l) i.done.crash
     (table_alone store.inner.table) (known c.import-answer.result.2) store.inner.area still.orderly (made.ready refl) (λ u image l. (leaves told still.usable u image l).table_is) (made.shown refl) in
     left_made σ c.args.uuid.now size new bytes left i.ends shows c.in-Ok.field-0 c.settle.result.0 g.D.Disk.told told ends_with spent c.settle.ensures.status only
+
+-- ---- what logs tell
+
+pub returns-clause-truthful : goal.returns-clause-truthful
+returns-clause-truthful g c = λ bytes given told ready was_told.
+    let s = c.args.session in
+    let n = c.import-answer.result.1.inner.disk in
+    let between = s.between c.requires.whole in
+    let site_is = rw c.into_parts-store.ensures.store at c.import-answer.ensures.site in
+    let stands = rw c.into_disk-disk.ensures.disk at c.into_disk-disk.ensures.stands in
+    let by_store = rw c.into_parts-store.ensures.store at c.import-answer.ensures.done in
+    let by_memory = rw c.into_parts-store.ensures.memory at by_store in
+    let i = by_memory told ready.0 in
+    let r_store = rw c.into_parts-store.ensures.store at c.import-answer.ensures.refused in
+    let r_memory = rw c.into_parts-store.ensures.memory at r_store in
+    let logs = rw c.into_parts-store.ensures.memory at c.import-answer.ensures.logs in
+    let all = imported_truthful bytes (rw given at i) between.orderly between.usable told ready.0 ready.1 was_told (λ r e. (r_memory r e).0) logs in
+    subst (λ d. IsTruthfulDevice (g.D.Disk.size d) (g.D.Disk.held d)) (sym c.into_disk-disk.ensures.disk)
+    (truthful_import (g.D.Disk.size n) (g.D.Disk.size n) _ (site_of s) (g.D.Disk.held n) (g.D.Disk.held n) _ _ _ i.ends refl site_is (Keeps-none (g.D.Disk.held n)) (stands told) (λ t image l. inl l) i.done.crash all)
+
+pub returns-in-Ok-clause-truthful : goal.returns-in-Ok-clause-truthful
+returns-in-Ok-clause-truthful g c = λ bytes given told ready was_told.
+    let s = c.args.session in
+    let n = c.import-answer.result.1.inner.disk in
+    let between = s.between c.requires.whole in
+    let site_is = rw c.into_parts-store.ensures.store at c.import-answer.ensures.site in
+    let stands = rw c.into_disk-disk.ensures.disk at c.into_disk-disk.ensures.stands in
+    let keeps = rw c.into_disk-disk.ensures.disk at c.settle.ensures.keeps in
+    let is_size = rw c.into_disk-disk.ensures.disk at c.settle.ensures.size in
+    let by_store = rw c.into_parts-store.ensures.store at c.import-answer.ensures.done in
+    let by_memory = rw c.into_parts-store.ensures.memory at by_store in
+    let i = by_memory told ready.0 in
+    let r_store = rw c.into_parts-store.ensures.store at c.import-answer.ensures.refused in
+    let r_memory = rw c.into_parts-store.ensures.memory at r_store in
+    let logs = rw c.into_parts-store.ensures.memory at c.import-answer.ensures.logs in
+    let all = imported_truthful bytes (rw given at i) between.orderly between.usable told ready.0 ready.1 was_told (λ r e. (r_memory r e).0) logs in
+    truthful_import (g.D.Disk.size c.settle.result.1) (g.D.Disk.size n) _ (site_of s) (g.D.Disk.held n) (g.D.Disk.held c.settle.result.1) _ _ _ i.ends (sym is_size) site_is (keeps told) (stands told) (λ t image l. inl l) i.done.crash all

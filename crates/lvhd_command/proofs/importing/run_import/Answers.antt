@@ -1,8 +1,9 @@
 use Rattle.std.proofs.Common.{inl, inr, refl, sym, ◌∙◌, subst}
-use Rattle.sm_disk.specs.Held.{Keeps}
+use Rattle.sm_disk.proofs.HeldLaws.{Allows-reads}
+use Rattle.sm_disk.specs.Held.{Keeps, reads}
 use Rattle.sm_machine.specs.Steps.{State}
 use Rattle.vg_volumes.specs.Sites.{Site}
-use Rattle.lvhd_command.specs.Devices.{IsKeptDevice, StandsAlways}
+use Rattle.lvhd_command.specs.Devices.{IsKeptDevice, IsTruthfulDevice, StandsAlways}
 use Rattle.lvhd_command.specs.Importing.{ImportLeft}
 use Rattle.lvhd_command.specs.Running.{RunSides, sides}
 use Rattle.lvhd_command.specs.Sessions.{site_of, state_of}
@@ -59,6 +60,9 @@ returns-in-Ok-clause-did g c = λ told.
       beside = beside_then s.size s.old (g.D.Disk.held m.store.inner.disk) s.new site (e.label told) (e.beside told) (c.make_disk.ensures.beside told);
       unsound = λ f on. absurd (sound_or_refused _ _ f (e.sound told) on);
       kept = λ k. subst (λ n. IsKeptDevice n s.new) is_size (c.make_disk.ensures.kept told (e.ready told (kept_well s.size s.old k)) (e.kept told (kept_well s.size s.old k)));
+      truthful = λ bytes given k truthful.
+          let slots = kept_well s.size s.old k in
+          subst (λ n. IsTruthfulDevice n s.new) is_size (c.make_disk.ensures.truthful bytes given told (e.ready told slots) (e.telling told slots (truthful (reads s.old) (Allows-reads s.size s.old))));
       tried = λ k.
           let slots = kept_well s.size s.old k in
           inl (record {
@@ -86,6 +90,7 @@ returns-in-Err-clause-did g c = λ told.
       beside = e.beside_back told;
       unsound = λ f on. has_stayed s c.in-Err.fault c.refuse.result g.D.Disk.told _ _ _ _ told refl e.refused c.refuse.ensures (e.unsound told f on);
       kept = e.kept_back told;
+      truthful = λ bytes given k. e.truthful_back told (kept_well s.size s.old k);
       tried = λ k. inr (record {
         source = refl;
         said = said;

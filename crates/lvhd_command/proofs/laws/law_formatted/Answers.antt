@@ -1,4 +1,5 @@
 use Rattle.lvhd_command.proofs.FormattedLaws.{formatted_kept, formatted_empty, device_kept, device_empty}
+use Rattle.lvhd_command.proofs.TruthLaws.{device_truthful}
 use Rattle.lvhd_command.proofs.laws.law_formatted.Goals as goal
 
 pub returns-clause-kept : goal.returns-clause-kept
@@ -12,3 +13,6 @@ returns-clause-device c = device_kept
 
 pub returns-clause-device_empty : goal.returns-clause-device_empty
 returns-clause-device_empty c = device_empty
+
+pub returns-clause-truthful : goal.returns-clause-truthful
+returns-clause-truthful c = device_truthful

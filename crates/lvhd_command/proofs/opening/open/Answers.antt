@@ -12,6 +12,7 @@ use Rattle.sm_ready.specs.Stores.{content_now}
 use Rattle.lvhd_command.specs.Devices.{IsRefusedOn, StandsAlways, beside_at, plate_at}
 use Rattle.lvhd_command.specs.Devices.IsRefusedOn.{by_group}
 use Rattle.lvhd_command.proofs.OpenLaws.{site_on, sound_entry, shown_entry, opened_entry, answer_as, refused_content, kept_back, shown_back, repaired_sized, always_sized, unless, unless_from, kept_well, well_entry}
+use Rattle.lvhd_command.proofs.TruthLaws.{truthful_entry, truthful_failed}
 use Rattle.lvhd_command.proofs.UnsoundLaws.{beside_whole, beside_then, never_sound}
 use Rattle.lvhd_command.proofs.opening.open.Goals as goal
 
@@ -66,6 +67,13 @@ returns-in-Ok-begin-clause-kept g c = λ told holding.
     let group = c.in-Ok.cache.inner in
     c.in-Ok-begin.ensures.kept told (well_entry (g.D.Disk.size c.args.disk) (g.D.Disk.held c.args.disk) (g.D.Disk.held group.disk) (site_on group.label (g.D.Disk.size group.disk)) (pointer group.header) (table_alone group.table) (e.area told) (e.stands told) holding)
 
+pub returns-in-Ok-begin-clause-telling : goal.returns-in-Ok-begin-clause-telling
+returns-in-Ok-begin-clause-telling g c = λ told holding truthful.
+    let e = c.in-Ok.ensures in
+    let group = c.in-Ok.cache.inner in
+    c.in-Ok-begin.ensures.told told (well_entry (g.D.Disk.size c.args.disk) (g.D.Disk.held c.args.disk) (g.D.Disk.held group.disk) (site_on group.label (g.D.Disk.size group.disk)) (pointer group.header) (table_alone group.table) (e.area told) (e.stands told) holding)
+    (truthful_entry (g.D.Disk.size c.args.disk) (g.D.Disk.held c.args.disk) (g.D.Disk.held group.disk) (site_on group.label (g.D.Disk.size group.disk)) (pointer group.header) (table_alone group.table) (e.area told) (e.stands told) truthful)
+
 pub returns-in-Ok-begin-clause-begins : goal.returns-in-Ok-begin-clause-begins
 returns-in-Ok-begin-clause-begins g c = λ told holding.
     let e = c.in-Ok.ensures in
@@ -100,6 +108,25 @@ returns-in-Err-begin-clause-kept_back g c = λ told kept.
     (λ t image l. c.in-Err-begin.ensures.crash_back told t image (subst (λ x. LeavesGroup (g.D.Disk.size x) (g.D.Disk.held x) (plate back.label) t image) c.into_disk.ensures.disk l)) in
     let always = always_sized size (g.D.Disk.size d) (g.D.Disk.held d) now after (c.into_disk.ensures.stands told) in
     kept_back size (g.D.Disk.held c.args.disk) (g.D.Disk.held group.disk) (g.D.Disk.held d) site now (table_alone group.table) c.in-Err-begin.ensures.site_back (e.keeps told) always left kept
+
+pub returns-in-Err-clause-truthful_back : goal.returns-in-Err-clause-truthful_back
+returns-in-Err-clause-truthful_back g c = λ told holding truthful image allowed. truthful image (Allows-keeps _ image (c.in-Err.ensures.keeps_back told) allowed)
+
+pub returns-in-Err-begin-clause-truthful_back : goal.returns-in-Err-begin-clause-truthful_back
+returns-in-Err-begin-clause-truthful_back g c = λ told holding truthful.
+    let e = c.in-Ok.ensures in
+    let group = c.in-Ok.cache.inner in
+    let back = c.in-Err-begin.cache.inner in
+    let d = c.into_disk.result in
+    let size = g.D.Disk.size c.args.disk in
+    let site : Site = site_on group.label (g.D.Disk.size group.disk) in
+    let now : Site = site_on back.label (g.D.Disk.size back.disk) in
+    let after : g.D.Disk.size d ≡ size = ap g.D.Disk.size c.into_disk.ensures.disk ∙ ap (λ (s : Site). s.sectors) c.in-Err-begin.ensures.site_back ∙ e.size in
+    let left = repaired_sized size (g.D.Disk.size group.disk) (g.D.Disk.size d) (g.D.Disk.held group.disk) (g.D.Disk.held d) site now (table_alone group.table) e.size after
+    (well_entry (g.D.Disk.size c.args.disk) (g.D.Disk.held c.args.disk) (g.D.Disk.held group.disk) (site_on group.label (g.D.Disk.size group.disk)) (pointer group.header) (table_alone group.table) (e.area told) (e.stands told) holding)
+    (λ t image l. c.in-Err-begin.ensures.crash_back told t image (subst (λ x. LeavesGroup (g.D.Disk.size x) (g.D.Disk.held x) (plate back.label) t image) c.into_disk.ensures.disk l)) in
+    let always = always_sized size (g.D.Disk.size d) (g.D.Disk.held d) now after (c.into_disk.ensures.stands told) in
+    truthful_failed size (g.D.Disk.held c.args.disk) (g.D.Disk.held group.disk) (g.D.Disk.held d) site now (pointer group.header) (table_alone group.table) c.in-Err-begin.ensures.site_back (e.keeps told) (e.area told) (e.stands told) always left truthful
 
 pub returns-in-Err-begin-clause-shown_back : goal.returns-in-Err-begin-clause-shown_back
 returns-in-Err-begin-clause-shown_back g c = λ told holding.

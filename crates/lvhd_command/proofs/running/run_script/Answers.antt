@@ -1,16 +1,18 @@
 use Rattle.std.proofs.Common.{◌≡◌, inl, inr, ⊎_elim, Ok, sym, refl, ap, ◌∙◌, subst}
-use Rattle.sm_disk.specs.Held.{Keeps}
-use Rattle.sm_disk.proofs.HeldLaws.{Keeps-none}
+use Rattle.sm_disk.specs.Held.{Keeps, reads}
+use Rattle.sm_disk.proofs.HeldLaws.{Allows-reads, Keeps-none}
 use Rattle.vg_store.specs.Groups.{area_of}
 use Rattle.vg_volumes.specs.Sites.{Site}
 use Rattle.sm_ready.specs.Known.{known}
+use Rattle.sm_reached.proofs.KnownLaws.{no_more_known}
 use Rattle.sm_run.specs.declared.runs.RunFault.TheVariants as fault
 use Rattle.lvhd_command.specs.Devices.{IsOneTable, beside_at, plate_at}
 use Rattle.lvhd_command.specs.Running.{RunSides, IsGivenBack}
-use Rattle.lvhd_command.specs.Sessions.{site_of, table_of}
+use Rattle.lvhd_command.specs.Sessions.{site_of, state_of, table_of}
 use Rattle.lvhd_command.proofs.OpenLaws.{kept_well}
 use Rattle.lvhd_command.proofs.RunLaws.{has_run_sized, back_itself, ok_not_err, ends_done, ends_early, ended_not, refused_calm, refused_sink_calm, session_state, said_refused, has_stayed, stayed_poor, kept_off, left_of, done_not_kept_off}
 use Rattle.lvhd_command.proofs.ExactLaws.{never_so, never_poor, sound_or_refused}
+use Rattle.lvhd_command.proofs.TruthLaws.{truthful_back}
 use Rattle.lvhd_command.proofs.UnsoundLaws.{beside_whole, beside_then, beside_last}
 use Rattle.lvhd_command.proofs.running.run_script.Goals as goal
 
@@ -57,7 +59,9 @@ returns-in-Ok-run-clause-did g c = λ told kept.
     inl (has_run_sized s c.close.result.0 n site (table_of m) (g.D.Disk.held m.store.inner.disk) _ _ c.run.result _ g.D.Disk.told m.store.inner.failed is_size (e.sound told) (e.shown told slots) (e.opened told slots) r
     (c.close.ensures.back told) (λ q. c.close.ensures.one told q.0)
     (λ q. session_state site (table_of m) (area_of site.layout (g.D.Disk.held m.store.inner.disk)) (known m.memory) ((m.between q.0).orderly) ((m.between q.0).tidy) q.2 q.1)
-    (ends_done s.size n s.new _ c.run.result _ c.close.result.0 g.D.Disk.told told c.in-Ok-run.is is_size c.close.ensures.status (c.close.ensures.shown told ready.0 (ready.1, ready.2))) labelled)
+    (ends_done s.size n s.new _ c.run.result _ c.close.result.0 g.D.Disk.told told c.in-Ok-run.is is_size c.close.ensures.status (c.close.ensures.shown told ready.0 (ready.1, ready.2))) labelled
+    (λ truthful turns. no_more_known (state_of c.in-Ok-open.session) turns (c.in-Ok-open.session.between e.whole).orderly.well_formed (e.ready told slots).1
+    (e.telling told slots (truthful (reads s.old) (Allows-reads s.size s.old))).taken))
 
 pub returns-clause-did : goal.returns-clause-did
 returns-clause-did g c = λ told kept.
@@ -82,7 +86,9 @@ returns-clause-did g c = λ told kept.
     inl (has_run_sized s c.status_of_fault.result n site (table_of m) (g.D.Disk.held m.store.inner.disk) _ _ c.run.result _ g.D.Disk.told m.store.inner.failed is_size (e.sound told) (e.shown told slots) (e.opened told slots) r
     back (λ q. subst (λ d. IsOneTable n site (g.D.Disk.held d) (table_of m)) (sym c.leave.ensures.disk) (c.leave.ensures.one told q.0))
     (λ q. session_state site (table_of m) (area_of site.layout (g.D.Disk.held m.store.inner.disk)) (known m.memory) ((m.between q.0).orderly) ((m.between q.0).tidy) q.2 q.1)
-    (ends_early s.size s.new _ c.run.result c.in-Err-run.fault c.status_of_fault.result c.in-Err-run.is c.status_of_fault.ensures) labelled)
+    (ends_early s.size s.new _ c.run.result c.in-Err-run.fault c.status_of_fault.result c.in-Err-run.is c.status_of_fault.ensures) labelled
+    (λ truthful turns. no_more_known (state_of c.in-Ok-open.session) turns (c.in-Ok-open.session.between e.whole).orderly.well_formed (e.ready told slots).1
+    (e.telling told slots (truthful (reads s.old) (Allows-reads s.size s.old))).taken))
 
 pub returns-in-Err-clause-unsound : goal.returns-in-Err-clause-unsound
 returns-in-Err-clause-unsound g c = λ told e on.
@@ -209,3 +215,37 @@ returns-clause-source_calm g c = λ other.
 pub returns-clause-sink_calm : goal.returns-clause-sink_calm
 returns-clause-sink_calm g c = λ other.
     c.run.ensures.sink_calm (ended_not c.run.result c.in-Err-run.fault fault.Sink c.status_of_fault.result c.in-Err-run.is c.status_of_fault.ensures other)
+
+-- ---- what logs tell
+
+pub returns-in_default-clause-truthful : goal.returns-in_default-clause-truthful
+returns-in_default-clause-truthful g c = λ told kept truthful. truthful
+
+pub returns-in-Err-clause-truthful : goal.returns-in-Err-clause-truthful
+returns-in-Err-clause-truthful g c = λ told kept truthful.
+    c.in-Err.ensures.truthful_back told (kept_well (g.D.Disk.size c.args.disk) (g.D.Disk.held c.args.disk) kept) truthful
+
+pub returns-in-Ok-run-clause-truthful : goal.returns-in-Ok-run-clause-truthful
+returns-in-Ok-run-clause-truthful g c = λ told kept truthful.
+    let e = c.in-Ok-open.ensures in
+    let m = c.run.new.machine in
+    let n = g.D.Disk.size m.store.inner.disk in
+    let site : Site = site_of m in
+    let is_size : n ≡ g.D.Disk.size c.args.disk = ap (λ (x : Site). x.sectors) c.run.ensures.site ∙ e.size in
+    let slots = kept_well (g.D.Disk.size c.args.disk) (g.D.Disk.held c.args.disk) kept in
+    let telling = e.telling told slots (truthful (reads (g.D.Disk.held c.args.disk)) (Allows-reads (g.D.Disk.size c.args.disk) (g.D.Disk.held c.args.disk))) in
+    let all = c.run.ensures.truthful told (e.whole, (e.ready told slots).0, (e.ready told slots).1) telling in
+    truthful_back (g.D.Disk.size c.args.disk) n site (g.D.Disk.held m.store.inner.disk) (g.D.Disk.held c.close.result.1) _ is_size (λ t image l. inl l) all (c.close.ensures.back told)
+
+pub returns-clause-truthful : goal.returns-clause-truthful
+returns-clause-truthful g c = λ told kept truthful.
+    let e = c.in-Ok-open.ensures in
+    let m = c.run.new.machine in
+    let n = g.D.Disk.size m.store.inner.disk in
+    let site : Site = site_of m in
+    let is_size : n ≡ g.D.Disk.size c.args.disk = ap (λ (x : Site). x.sectors) c.run.ensures.site ∙ e.size in
+    let slots = kept_well (g.D.Disk.size c.args.disk) (g.D.Disk.held c.args.disk) kept in
+    let telling = e.telling told slots (truthful (reads (g.D.Disk.held c.args.disk)) (Allows-reads (g.D.Disk.size c.args.disk) (g.D.Disk.held c.args.disk))) in
+    let all = c.run.ensures.truthful told (e.whole, (e.ready told slots).0, (e.ready told slots).1) telling in
+    let back = subst (λ d. IsGivenBack n site (g.D.Disk.held m.store.inner.disk) (g.D.Disk.held d)) (sym c.leave.ensures.disk) (back_itself n site (g.D.Disk.held m.store.inner.disk) (c.leave.ensures.stands told)) in
+    truthful_back (g.D.Disk.size c.args.disk) n site (g.D.Disk.held m.store.inner.disk) (g.D.Disk.held c.leave.result) _ is_size (λ t image l. inl l) all back
