@@ -3,8 +3,8 @@
 `sequence` is no damage: it sets the sequence number to the first that is too high for a new image. `old` is none either: it writes a repository of
 the narrow layout, whose text is short enough, as one of version 1, and puts zeros where that has nothing. Nor are `apart` and `dealt`: they deal all extents
 out, each second one or each one, to VHD images without blocks that have one extent each, so that no two of an image are neighbours. Nor is `track`: it makes the
-log of the first disk, of four pieces in which no bit is set; `logs` prints what the logs are read as, and `strays` makes one of a disk that is not there, and one
-that is new."""
+log of the first disk, of four pieces in which no bit is set; `logs` prints what the logs are read as, `marks` sets each bit of the first sector of bits of the first
+disk's log, and `strays` makes a log of a disk that is not there, and one that is new. `log` and the places that begin with it are of the first disk's log."""
 import struct
 import sys
 
@@ -156,10 +156,10 @@ def damage(it, place):
         it.change(it.sector_of(b"MGT"), 200, b"\1")
     elif place == "disk":
         it.put(it.sector_of(b"MGT"), bytes(512))
-    elif place == "log":
-        it.change(it.sector_of(b"CBT-"), 27, b"\5", sealed)
     elif place == "logs":
         it.logs()
+    elif place in ("marks", "log", "log-sum", "log-number", "log-since", "log-twice"):
+        change_log(it, place, it.sector_of(b"CBT-1"))
     elif place == "image":
         it.put(it.sector_of(b"VHD-1") + 1, bytes(512))
     else:
@@ -167,13 +167,27 @@ def damage(it, place):
         it.commit()
 
 
+def change_log(it, place, first):
+    """Changes the first disk's log: its bits, its pieces, its head beside the sum, one of its numbers to one that is not yet used, or its number to the second log's."""
+    if place == "marks":
+        it.put(first + 1, b"\xff" * 512)
+    elif place == "log":
+        it.change(first, 27, b"\5", sealed)
+    elif place == "log-sum":
+        it.change(first, 100, b"\1")
+    elif place == "log-twice":
+        it.change(first, 8, it.get(it.sector_of(b"CBT-2"))[8:16], sealed)
+    else:
+        it.change(first, 8 if place == "log-number" else 16, struct.pack(">Q", it.sequence), sealed)
+
+
 def change_table(it, place):
     if place == "sequence":
         it.sequence = 2**48 - 16
     elif place == "text":
         it.volume(b"LV-")[0] = 4
-    elif place == "mgt":
-        it.volume(b"MGT")[1].pop()
+    elif place in ("mgt", "log-short"):
+        it.volume(b"MGT" if place == "mgt" else b"CBT-")[1].pop()
     elif place == "images":
         used = {extent for _, extents in it.volumes.values() for extent in extents}
         free = [extent for extent in range(it.count) if extent not in used]

@@ -1,6 +1,6 @@
 #!/bin/sh
 # Each kind of line once, on a real file, with its reply beside it: a VHD disk and a raw one, a guest's lines, a snapshot, and the collector
-# until the disk stands by itself again.
+# until the disk stands by itself again. Then the disk is tracked, and it is asked what changed since a snapshot.
 set -e
 root=$(cd "$(dirname "$0")/.." && pwd)
 . "$root/examples/shown.sh"
@@ -32,4 +32,9 @@ gc
 clone A C
 delete B
 stat
+cbt A on
+snapshot A B
+attach A rw
+fill A 130 1 cd
+changed B A
 END

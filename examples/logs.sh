@@ -1,6 +1,6 @@
 #!/bin/sh
-# A repository with the log of a tracked disk, which examples/damage.py makes, as no line does yet: what each line does to logs, as a reader of
-# its own reads them off the file. A disk of 262,144 bytes has four pieces of 64 KiB, 128 sectors each.
+# A repository with the log of a tracked disk, which examples/damage.py makes by hand: what each line does to logs, as a reader of
+# its own reads them off the file, and logs that are wrong. A disk of 262,144 bytes has four pieces of 64 KiB, 128 sectors each.
 set -e
 root=$(cd "$(dirname "$0")/.." && pwd)
 . "$root/examples/shown.sh"
@@ -43,8 +43,28 @@ label A kept
 END
 damage logs
 echo '== a log that is wrong is named, and nothing changes'
-damage log
-cp "$work/repo.img" "$work/before.img"
-"$program" "$work/repo.img" run </dev/null >"$work/told" || echo "status $?"
-short <"$work/told"
-cmp "$work/repo.img" "$work/before.img" && echo 'as it was'
+# A repository that is damaged at a place: what an opening says, and its status.
+wrong() {
+    cp --sparse=always "$work/$1.img" "$work/damaged.img"
+    python3 "$root/examples/damage.py" "$work/damaged.img" "$2"
+    cp --sparse=always "$work/damaged.img" "$work/before.img"
+    status=0
+    "$program" "$work/damaged.img" run </dev/null >"$work/told" || status=$?
+    printf '%-37s %s, status %s\n' "$2" "$(short <"$work/told")" "$status"
+    cmp "$work/damaged.img" "$work/before.img"
+}
+shown "$work/repo.img" <<'END'
+snapshot A B
+END
+for place in log log-sum log-number log-since log-twice; do
+    wrong repo "$place"
+done
+# A disk of 8 GiB has 131,072 pieces: its log has 33 sectors, and one of its two extents is taken away.
+truncate -s 8M "$work/long.img"
+"$program" "$work/long.img" format 16384 16384 524288 "$repository"
+shown "$work/long.img" <<'END'
+create A 8589934592 vhd long
+cbt A on
+stat
+END
+wrong long log-short

@@ -3,10 +3,13 @@
 tables of sectors, images are rows, and nothing is on a device.
 
     model.py script SEED LINES                             a random script over eight disks
+    model.py tracked SEED LINES                            the same, where disks are tracked too and it is asked what changed
     model.py replies EXTENT BLOCK ENTRIES SECTORS < script  what a run answers on a new repository
     model.py files EXTENT BLOCK ENTRIES SECTORS TO < script  what each disk is exported as behind it, with the stamp 0, into TO/UUID.vhd
+    model.py logs EXTENT BLOCK ENTRIES SECTORS < script     the logs of tracked disks behind it, as examples/damage.py reads them
     model.py trial N                                        what `lvhd trial N` prints
 """
+import base64
 import itertools
 import pathlib
 import random
@@ -41,6 +44,14 @@ class Disk:
         self.label, self.origin, self.read_only = label, origin, read_only
 
 
+class Log:
+    """What is tracked of a disk: the number by which other logs name it (0 for none), the number of the snapshot since which it has pieces (0 for
+    none), and the pieces of 128 sectors that were written to."""
+
+    def __init__(self, extents, tag, since, pieces):
+        self.extents, self.tag, self.since, self.pieces = extents, tag, since, pieces
+
+
 class Refused(Exception):
     pass
 
@@ -66,7 +77,7 @@ class Machine:
         self.extent, self.block, self.entries = extent // 512, block // 512, entries
         # The layout that gives more extents: they begin at one sector or at another, and are so many at most.
         self.extents = max(min(most, max(sectors - begin, 0) // self.extent) for begin, most in ((4096, 65536), (37376, 1048576)))
-        self.sequence, self.disks, self.images, self.attached, self.operation = 1, {}, {}, {}, None
+        self.sequence, self.disks, self.images, self.attached, self.operation, self.logs = 1, {}, {}, {}, None, {}
 
     # ---- numbers
 
@@ -77,7 +88,7 @@ class Machine:
         return self.thin(size // self.block)
 
     def free(self):
-        return self.extents - up(512, self.extent) - sum(image.extents for image in self.images.values())
+        return self.extents - up(512, self.extent) - sum(volume.extents for volume in [*self.images.values(), *self.logs.values()])
 
     def commit(self, count):
         self.sequence = min(self.sequence + count, LAST_SEQUENCE)
@@ -120,7 +131,7 @@ class Machine:
         words = line.split(" ")
         shape = {
             "create": "USKL", "delete": "U", "attach": "UM", "detach": "U", "snapshot": "UU", "clone": "UU", "resize": "US", "label": "UL",
-            "write": "USH", "fill": "USSB", "read": "USS", "flush": "U", "gc": "", "list": "", "stat": "",
+            "write": "USH", "fill": "USSB", "read": "USS", "flush": "U", "gc": "", "list": "", "stat": "", "cbt": "UO", "changed": "UU",
         }.get(words[0])
         if shape is None or len(words) != len(shape) + 1 or len(line) > 65536:
             return None
@@ -129,6 +140,7 @@ class Machine:
             "S": lambda word: int(word) if NUMBER.match(word) and int(word) < 2**64 else None,
             "K": lambda word: word if word in ("raw", "vhd") else None,
             "M": lambda word: word if word in ("ro", "rw") else None,
+            "O": lambda word: word if word in ("on", "off") else None,
             "L": lambda word: word if re.match(r"[!-~]{1,64}$", word) else None,
             "H": lambda word: bytes.fromhex(word) if re.match(r"([0-9a-fA-F]{1024})+$", word) else None,
             "B": lambda word: bytes.fromhex(word) if re.match(r"[0-9a-fA-F]{2}$", word) else None,
@@ -210,6 +222,8 @@ class Machine:
         self.give_up(name)
         del self.images[name], self.disks[disk]
         self.commit(1)
+        if disk in self.logs:
+            self.end_log(disk)
         return "ok"
 
     def attach(self, disk, mode):
@@ -238,8 +252,9 @@ class Machine:
         self.test_fork(name, 2)
         size = self.images[name].size
         own = self.thick(size) if self.attached.get(disk) == "rw" else self.thin(0)
-        self.test_room(own + self.thin(0))
-        base = name[: name.index("-") + 1] + base_uuid(self.sequence)
+        log, number = self.logs.get(disk) if read_only else None, self.sequence
+        self.test_room(own + self.thin(0) + (log.extents if log else 0))
+        base = name[: name.index("-") + 1] + base_uuid(number)
         self.give_up(name)
         self.images[base] = self.images.pop(name)
         self.images[base].hidden = True
@@ -247,6 +262,10 @@ class Machine:
         self.images["VHD-" + twin] = Image(base, size, self.thin(0))
         self.disks[twin] = Disk(self.disks[disk].label, disk, read_only)
         self.commit(8)
+        if log:
+            self.logs[twin] = Log(log.extents, number, log.since, log.pieces)
+            log.since, log.pieces = number, set()
+            self.commit(2)
         return "ok"
 
     def snapshot(self, disk, twin):
@@ -262,6 +281,7 @@ class Machine:
         name = self.own(disk)
         image = self.images[name]
         self.test(not is_vhd(name), "RawDisk")
+        self.test(disk in self.logs, "Tracked")
         size = self.test_size(size, False)
         self.test(size < image.size, "Shrink")
         need = self.lacking(name, size) if disk in self.attached else 0
@@ -275,6 +295,58 @@ class Machine:
         self.test_names(disk, None)
         self.disks[disk].label = text
         return "ok"
+
+    # ---- tracked disks
+
+    def piece_count(self, disk):
+        return up(self.images[self.own(disk)].size, 128)
+
+    def end_log(self, disk):
+        del self.logs[disk]
+        self.commit(1)
+
+    def cbt(self, disk, word):
+        self.test_names(disk, None)
+        if word == "off":
+            self.test(disk not in self.logs, "NotTracked")
+            self.end_log(disk)
+            return "ok"
+        self.test(self.disks[disk].read_only, "ReadOnly")
+        self.test(disk in self.logs, "Tracked")
+        need = up(1 + up(self.piece_count(disk), 4096), self.extent)
+        self.test_room(need)
+        self.logs[disk] = Log(need, 0, 0, set())
+        self.commit(2)
+        return "ok"
+
+    def pieces_between(self, disk, later):
+        """The pieces of the later disk's log and of those before it, back to the earlier disk's; None where they do not lead there."""
+        found, met, at = set(), set(), later
+        while at != disk:
+            if at in met or at not in self.logs:
+                return None
+            log = self.logs[at]
+            found |= log.pieces
+            met.add(at)
+            at = next((one for one, other in self.logs.items() if other.tag == log.since), None) if log.since else None
+        return found
+
+    def differing(self, disk, later):
+        """The pieces in which the sectors of two disks differ."""
+        one, other = self.own(disk), self.own(later)
+        sectors = range(max(self.images[one].size, self.images[other].size))
+        return {sector // 128 for sector in sectors if self.read_sector(one, sector) != self.read_sector(other, sector)}
+
+    def changed(self, disk, later):
+        self.test_names(disk, None)
+        self.test_names(later, None)
+        pieces = self.pieces_between(disk, later)
+        self.test(pieces is None, "NotTracked")
+        assert self.differing(disk, later) <= pieces, "a piece that differs is not named"
+        bits = bytearray(up(self.piece_count(disk), 8))
+        for piece in pieces:
+            bits[piece // 8] |= 128 >> piece % 8
+        return f"ok {base64.b64encode(bits).decode()}"
 
     # ---- guests
 
@@ -296,6 +368,8 @@ class Machine:
             if self.operation and self.operation[:2] == ("live", name) and place // self.block < self.operation[3]:
                 self.dirty.add(place // self.block)
             image.sectors[place] = data
+            if disk in self.logs:
+                self.logs[disk].pieces.add(place // 128)
         return "ok"
 
     def write(self, disk, sector, data):
@@ -574,6 +648,49 @@ def random_lines(draw):
                 yield line
 
 
+def tracked_lines(draw):
+    """Lines under which a disk is tracked and written, snapshots of it are taken, and of one of these at times, and some are deleted. Between any two
+    of these disks it is asked what changed, and at times tracking ends and begins anew in between."""
+    disk, *twins = draw.sample(DISKS, draw.randint(3, 6))
+    blocks, kind = draw.randint(8, 64), draw.choice(["vhd", "vhd", "vhd", "raw"])
+
+    def gone(one):
+        return [f"detach {one}", f"delete {one}"]
+
+    def asked(count):
+        return [f"changed {draw.choice(there)} {draw.choice(there)}" for _ in range(count)]
+
+    there = [disk]
+    yield from [*gone(disk), f"create {disk} {4096 * blocks} {kind} tracked", f"cbt {disk} on", f"attach {disk} rw"]
+    for twin in twins:
+        for _ in range(draw.randrange(3)):
+            yield f"fill {disk} {draw.randrange(8 * blocks)} {draw.randint(1, 24)} {draw.randrange(256):02x}"
+        yield from [*gone(twin), f"snapshot {disk if draw.randrange(6) else draw.choice(there)} {twin}"]
+        there.append(twin)
+        yield from [*asked(2), *["gc"] * draw.randrange(4)]
+    yield from [*asked(4), f"fill {disk} {draw.randrange(8 * blocks)} 1 {draw.randrange(256):02x}", *asked(2), *gone(draw.choice(twins)), *asked(4)]
+    if draw.randrange(3) == 0:
+        yield from [f"cbt {disk} off", *asked(3), f"cbt {disk} on", *asked(3)]
+    yield from [f"detach {disk}", *["gc"] * draw.randint(4, 24)]
+
+
+def lines_with_tracking(draw):
+    """Those of random_lines, among them single lines on tracked disks and runs of them."""
+    others = random_lines(draw)
+    while True:
+        kind = draw.randrange(16)
+        if kind == 0:
+            for line in tracked_lines(draw):
+                yield line
+                if draw.randrange(16) == 0:
+                    yield next(others)
+        elif kind < 3:
+            one, other = draw.choice(DISKS), draw.choice(DISKS)
+            yield draw.choice([f"cbt {one} on", f"cbt {one} on", f"cbt {one} off", f"changed {one} {other}", f"changed {one} {other}", f"cbt {one}"])
+        else:
+            yield next(others)
+
+
 def trial_lines(number):
     """The 20,000 lines that a trial draws from its number."""
     state = number
@@ -625,9 +742,9 @@ def main():
     if sys.argv[1] == "trial":
         print(trial(int(sys.argv[2])))
         return
-    if sys.argv[1] == "script":
-        draw = random.Random(int(sys.argv[2]))
-        for line in itertools.islice(random_lines(draw), int(sys.argv[3])):
+    if sys.argv[1] in ("script", "tracked"):
+        lines = random_lines if sys.argv[1] == "script" else lines_with_tracking
+        for line in itertools.islice(lines(random.Random(int(sys.argv[2]))), int(sys.argv[3])):
             print(line)
         return
     machine = Machine(*map(int, sys.argv[2:6]))
@@ -635,6 +752,11 @@ def main():
     if sys.argv[1] == "files":
         for disk in machine.disks:
             pathlib.Path(sys.argv[6], f"{disk}.vhd").write_bytes(machine.file(disk, 0))
+        return
+    if sys.argv[1] == "logs":
+        for disk, log in sorted(machine.logs.items()):
+            pieces = "".join("1" if piece in log.pieces else "0" for piece in range(machine.piece_count(disk)))
+            print(f"{disk}: number {log.tag}, since {log.since}, pieces {pieces}")
         return
     for reply in replies:
         print(reply)

@@ -38,6 +38,9 @@ create D 262144 raw large
 create E 262144 raw large
 resize A 262144
 attach A rw
+cbt B off
+cbt A on
+resize A 262144
 END
 echo '== a chain of 30 images'
 formatted "$work/chain.img" 4M
@@ -61,6 +64,7 @@ shown "$work/spent.img" <<'END'
 create D 4096 vhd disk
 snapshot A D
 label A other
+cbt A on
 END
 echo '== want of memory: 16 tables of 1 MiB each in 16 MiB'
 truncate -s 20M "$work/large.img"

@@ -30,7 +30,7 @@ void *realloc(void *p, size_t n) { static void *(*to)(void *, size_t); if (!to) 
 __attribute__((destructor)) static void tell(void) { char *path = getenv("ASKED"); FILE *f = path ? fopen(path, "w") : 0; if (f) { fprintf(f, "%ld", asked); fclose(f); } }
 """
 A, B, C, E = (f"{digit * 8}-{digit * 4}-4{digit * 3}-8{digit * 3}-{digit * 12}" for digit in "1234")
-SPARED = ("create", "attach", "snapshot", "clone", "resize", "read", "list", "stat")
+SPARED = ("create", "attach", "snapshot", "clone", "resize", "read", "list", "stat", "cbt", "changed")
 SCRIPTS = {
     "an attached disk grows": [
         f"create {A} 65536 vhd x", f"attach {A} rw", f"fill {A} 0 1 aa", f"resize {A} 69632", f"resize {A} 131072", f"fill {A} 127 2 bb", "stat",
@@ -52,6 +52,10 @@ SCRIPTS = {
         f"create {A} 65536 vhd x", f"attach {A} rw", f"fill {A} 0 1 aa", f"snapshot {A} {B}", f"fill {A} 8 1 bb", f"delete {B}", *["gc"] * 3,
         f"fill {A} 9 1 cc", "stat", *["gc"] * 2, f"read {A} 0 1", f"read {A} 8 2", f"detach {A}", "stat",
     ],
+    "a disk is tracked": [
+        f"create {A} 131072 vhd x", f"cbt {A} on", f"cbt {A} on", f"attach {A} rw", f"snapshot {A} {B}", f"fill {A} 128 1 aa", f"snapshot {A} {C}", f"changed {B} {C}",
+        f"changed {C} {C}", f"changed {C} {B}", f"cbt {C} off", f"changed {B} {A}", f"delete {B}", f"cbt {A} off", f"cbt {A} on", f"changed {A} {A}", "stat",
+    ],
 }
 
 
@@ -65,14 +69,14 @@ def run(path, script, shim, refused=None):
 
 def is_spared(machine, line):
     """Whether want of memory may take the place of the machine's answer: a `gc` only where it begins to fold an image, a `resize` only
-    where it needs extents, and no refused line."""
+    where it needs extents, no end of tracking, and no refused line."""
     after = copy.deepcopy(machine)
     answer = after.answer(line)
     if line == "gc":
         return answer.startswith(("ok gc begin", "ok gc leaf", "ok gc live"))
     if line.startswith("resize"):
         return answer.startswith("ok") and after.images[after.own(line.split(" ")[1])].extents > machine.images[machine.own(line.split(" ")[1])].extents
-    return line.split(" ")[0] in SPARED and answer.startswith("ok")
+    return line.split(" ")[0] in SPARED and not line.endswith(" off") and answer.startswith("ok")
 
 
 def follow(script, replies):

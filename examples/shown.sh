@@ -5,9 +5,11 @@ trap 'rm -rf "$work"' EXIT
 repository=99999999-9999-4999-8999-999999999999
 # The UUIDs that A to E stand for, in the lines that are given to the program.
 long() {
-    sed -E 's/ A( |$)/ 11111111-1111-4111-8111-111111111111\1/; s/ B( |$)/ 22222222-2222-4222-8222-222222222222\1/
+    sed -E ':again
+        s/ A( |$)/ 11111111-1111-4111-8111-111111111111\1/; s/ B( |$)/ 22222222-2222-4222-8222-222222222222\1/
         s/ C( |$)/ 33333333-3333-4333-8333-333333333333\1/; s/ D( |$)/ 44444444-4444-4444-8444-444444444444\1/
-        s/ E( |$)/ 55555555-5555-4555-8555-555555555555\1/'
+        s/ E( |$)/ 55555555-5555-4555-8555-555555555555\1/
+        t again'
 }
 # The letters in what it prints; #N for the UUID of the base image with the number N, and a sector of one byte as that byte and two points.
 short() {

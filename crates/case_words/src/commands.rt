@@ -125,7 +125,7 @@ impl<'a> Command<'a> {
             "label" => Command::Label { uuid, label: rest },
             "fill" => fill(uuid, rest),
             "write" => write(uuid, rest),
-            "attach" | "detach" | "flush" => Command::Settle,
+            "attach" | "detach" | "flush" | "cbt" => Command::Settle,
             "list" => Command::List,
             "read" => Command::Read {
                 uuid,

@@ -1,8 +1,7 @@
--- A disk of two pieces is tracked: its second piece is written to between two snapshots of it.
+-- A disk of two pieces is tracked: its second piece is written to between two snapshots of it, and that is told.
 use Rattle.std.specs.Prelude.{ℕ, List, [], ◌∷◌, ◌++◌, Bool, false, true, codes, replicate}
 use Rattle.sm_log.specs.Logs.{Log}
 use Rattle.sm_machine.specs.Steps.{State}
-use Rattle.sm_machine.specs.Tracking.{begun, ended}
 use Rattle.examples_scripts.specs.Scripts.{Script, line, new, after}
 
 -- the UUIDs of a disk and of its two snapshots
@@ -17,16 +16,19 @@ later = 51 ∷ 51 ∷ 51 ∷ 51 ∷ 51 ∷ 51 ∷ 67 ∷ 51 ∷ 131 ∷ replicat
 
 -- the disk is made, and tracking of it begins
 abbrev pub made : Script
-made = line (codes "create 11111111-1111-4111-8111-111111111111 131072 vhd x") (codes "ok 131072") ∷ []
+made =
+    line (codes "create 11111111-1111-4111-8111-111111111111 131072 vhd x") (codes "ok 131072") ∷
+    line (codes "cbt 11111111-1111-4111-8111-111111111111 off") (codes "no NotTracked") ∷
+    line (codes "cbt 11111111-1111-4111-8111-111111111111 on") (codes "ok") ∷
+    []
 
 abbrev pub started : State
-started = let σ : State = after new made in record { disks = σ.disks; shape = begun σ.shape tracked_disk }
+started = after new made
 
 -- two snapshots, and between them a write to the second piece
 abbrev pub until_written : Script
 until_written =
     line (codes "attach 11111111-1111-4111-8111-111111111111 rw") (codes "ok") ∷
-    line (codes "resize 11111111-1111-4111-8111-111111111111 262144") (codes "no Tracked") ∷
     line (codes "snapshot 11111111-1111-4111-8111-111111111111 22222222-2222-4222-8222-222222222222") (codes "ok") ∷
     line (codes "fill 11111111-1111-4111-8111-111111111111 128 1 aa") (codes "ok") ∷
     []
@@ -47,9 +49,34 @@ no_log_room =
     line (codes "snapshot 11111111-1111-4111-8111-111111111111 22222222-2222-4222-8222-222222222222") (codes "no NoSpace need 12 free 11") ∷
     []
 
+-- what changed is told where the logs lead back; a tracked disk gets no other size, and tracking of a snapshot does not begin
+abbrev pub asked : Script
+asked =
+    line (codes "changed 22222222-2222-4222-8222-222222222222 33333333-3333-4333-8333-333333333333") (codes "ok QA==") ∷
+    line (codes "changed 33333333-3333-4333-8333-333333333333 33333333-3333-4333-8333-333333333333") (codes "ok AA==") ∷
+    line (codes "changed 33333333-3333-4333-8333-333333333333 11111111-1111-4111-8111-111111111111") (codes "ok AA==") ∷
+    line (codes "changed 33333333-3333-4333-8333-333333333333 22222222-2222-4222-8222-222222222222") (codes "no NotTracked") ∷
+    line (codes "changed  33333333-3333-4333-8333-333333333333 22222222-2222-4222-8222-222222222222") (codes "no BadLine") ∷
+    line (codes "resize 11111111-1111-4111-8111-111111111111 262144") (codes "no Tracked") ∷
+    line (codes "cbt 11111111-1111-4111-8111-111111111111 on") (codes "no Tracked") ∷
+    line (codes "cbt 22222222-2222-4222-8222-222222222222 on") (codes "no ReadOnly") ∷
+    line (codes "cbt 11111111-1111-4111-8111-111111111111 On") (codes "no BadLine") ∷
+    []
+
 -- then the first snapshot is deleted
 abbrev pub until_deleted : Script
-until_deleted = until_later ++ line (codes "delete 22222222-2222-4222-8222-222222222222") (codes "ok") ∷ []
+until_deleted = until_later ++ asked ++ line (codes "delete 22222222-2222-4222-8222-222222222222") (codes "ok") ∷ []
+
+-- and tracking of the disk ends
+abbrev pub until_stopped : Script
+until_stopped =
+    until_deleted
+    ++ line (codes "changed 22222222-2222-4222-8222-222222222222 33333333-3333-4333-8333-333333333333") (codes "no UnknownDisk")
+    ∷ line (codes "changed 33333333-3333-4333-8333-333333333333 22222222-2222-4222-8222-222222222222") (codes "no UnknownDisk")
+    ∷ line (codes "cbt 11111111-1111-4111-8111-111111111111 off") (codes "ok")
+    ∷ line (codes "changed 33333333-3333-4333-8333-333333333333 11111111-1111-4111-8111-111111111111") (codes "no NotTracked")
+    ∷ line (codes "changed 11111111-1111-4111-8111-111111111111 11111111-1111-4111-8111-111111111111") (codes "ok AA==")
+    ∷ []
 
 -- a log of one extent, with this tag, since this one, and whether the first piece and the second were written to
 abbrev pub log_with : List ℕ → ℕ → ℕ → Bool → Bool → Log
@@ -66,7 +93,3 @@ logs_later = log_with tracked_disk 0 18 false false ∷ log_with earlier 8 0 fal
 -- the logs once the first snapshot is deleted
 abbrev pub logs_deleted : List Log
 logs_deleted = log_with tracked_disk 0 18 false false ∷ log_with later 18 8 false true ∷ []
-
--- the state once tracking of the disk ends
-abbrev pub stopped : State
-stopped = let σ : State = after started until_deleted in record { disks = σ.disks; shape = ended σ.shape tracked_disk }

@@ -16,8 +16,7 @@ ghost use Rattle.examples_scripts.specs.Disks.{empty, grown, one_disk, order, re
 ghost use Rattle.examples_scripts.specs.Crowds.{crowded_from, crowded};
 ghost use Rattle.examples_scripts.specs.Guests.{attached_grows, fork_room, snapshot_of_attached, guest_writes, shared_base, no_room, raw_base};
 ghost use Rattle.examples_scripts.specs.Collecting.{coalesce, given_up, fold, live, live_many, live_new_block, live_given_up, blocked};
-ghost use Rattle.sm_log.specs.Examples.{answer};
-ghost use Rattle.examples_scripts.specs.Tracking.{earlier, later, logs_deleted, logs_later, logs_written, no_log_room, started, stopped, tracked_disk, until_deleted, until_later, until_written};
+ghost use Rattle.examples_scripts.specs.Tracking.{logs_deleted, logs_later, logs_written, made, no_log_room, started, until_deleted, until_later, until_stopped, until_written};
 ghost use Rattle.examples_scripts.specs.Scripts.{IsAnswered, after, new, spent_from};
 ghost use Rattle.std.specs.Prelude.{map};
 
@@ -184,17 +183,16 @@ pub fn script_least_slot()
     ensures kept { with_block 1 (None ∷ Some 3 ∷ []) ≡ None ∷ Some 3 ∷ [] }
 {}
 
-/// A tracked disk gets no other size. It is written to between two snapshots: a log is made with each snapshot, for which there must be
-/// room too, and goes with its disk.
+/// Tracking of a disk begins, and the disk gets no other size. It is written to between two snapshots, which is told: a log is made with each
+/// snapshot, for which there must be room too, and goes with its disk. Then tracking ends.
 pub fn script_tracked()
-    ensures replies { IsAnswered started until_later }
+    ensures begun { IsAnswered new made }
+    ensures replies { IsAnswered started until_stopped }
     ensures room { IsAnswered started no_log_room }
     ensures written { (after started until_written).shape.logs ≡ logs_written }
     ensures later { (after started until_later).shape.logs ≡ logs_later }
-    ensures changed { answer earlier later ((after started until_later).shape.logs) ≡ Some (codes "QA==") }
-    ensures now { answer later tracked_disk ((after started until_later).shape.logs) ≡ Some (codes "AA==") }
     ensures others { (after started until_later).shape.others ≡ 19 }
     ensures deleted { (after started until_deleted).shape.logs ≡ logs_deleted }
-    ensures counted { (after started until_deleted).shape.sequence ≡ 30 }
-    ensures stopped { stopped.shape.others ≡ 17 }
+    ensures counted { (after started until_stopped).shape.sequence ≡ 31 }
+    ensures stopped { (after started until_stopped).shape.others ≡ 17 }
 {}

@@ -188,6 +188,7 @@ fn refusals(rt: HostRuntime) {
         (Refusal::ReadOnly, 7),
         (Refusal::RawDisk, 8),
         (Refusal::Tracked, 20),
+        (Refusal::NotTracked, 21),
         (Refusal::OutOfRange, 9),
         (Refusal::BadSize, 10),
         (Refusal::Shrink, 11),

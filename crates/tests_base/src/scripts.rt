@@ -31,7 +31,7 @@ fn third() -> Uuid {
     Uuid::from_bytes([0x5c; 16])
 }
 
-/// What a command says beside its disk: its word, its numbers, and its label, bytes or twin.
+/// What a command says beside its disk: its word, its numbers, and its label, bytes, twin or other disk.
 fn said(command: &Command) -> (&str, [u64; 3], &[u8]) {
     match command {
         Command::Create {
@@ -59,6 +59,8 @@ fn said(command: &Command) -> (&str, [u64; 3], &[u8]) {
         Command::Gc => ("gc", [0; 3], b""),
         Command::List => ("list", [0; 3], b""),
         Command::Stat => ("stat", [0; 3], b""),
+        Command::Track { on, .. } => ("cbt", [u64::from(*on), 0, 0], b""),
+        Command::Changed { to, .. } => ("changed", [0; 3], to.as_bytes()),
     }
 }
 
@@ -76,7 +78,9 @@ fn disk_of(command: &Command) -> Uuid {
         | Command::Write { disk, .. }
         | Command::Fill { disk, .. }
         | Command::Read { disk, .. }
-        | Command::Flush { disk } => *disk,
+        | Command::Flush { disk }
+        | Command::Track { disk, .. } => *disk,
+        Command::Changed { from, .. } => *from,
         Command::Gc | Command::List | Command::Stat => Uuid::nil(),
     }
 }
@@ -145,6 +149,9 @@ fn commands_of_a_disk(rt: HostRuntime) -> Result<(), Fail> {
         ("label", " other", [0, 0, 0], b"other"),
         ("fill", " 7 20 aF", [7, 20, 0xaf], b""),
         ("read", " 10 128", [10, 128, 0], b""),
+        ("cbt", " on", [1, 0, 0], b""),
+        ("cbt", " off", [0, 0, 0], b""),
+        ("changed", second, [0, 0, 0], &SECOND),
     ];
     for (word, rest, numbers, text) in rows {
         reads(&rt, rt.alloc(), word, rest, numbers, text)?;
@@ -278,6 +285,11 @@ fn lines_of_a_disk_that_spell_nothing(rt: HostRuntime) -> Result<(), Fail> {
         ("fill", " 0 1"),
         ("read", " 0 1 2"),
         ("write", " 0"),
+        ("cbt", ""),
+        ("cbt", " On"),
+        ("cbt", " on off"),
+        ("changed", ""),
+        ("changed", " on"),
     ];
     for (word, rest) in rows {
         refuses(&rt, rt.alloc(), word, rest)?;
@@ -328,6 +340,7 @@ fn refusals(rt: HostRuntime) -> Result<(), Fail> {
         (Refusal::ReadOnly, "no ReadOnly\n"),
         (Refusal::RawDisk, "no RawDisk\n"),
         (Refusal::Tracked, "no Tracked\n"),
+        (Refusal::NotTracked, "no NotTracked\n"),
         (Refusal::OutOfRange, "no OutOfRange\n"),
         (Refusal::BadSize, "no BadSize\n"),
         (Refusal::Shrink, "no Shrink\n"),
@@ -530,6 +543,12 @@ fn bytes(alloc: Global) -> Result<Reply, Fail> {
     Ok(Reply::Bytes(Bytes { bytes }))
 }
 
+/// A reply of the text of a byte, in which the second piece changed.
+fn second_piece(alloc: Global) -> Result<Reply, Fail> {
+    let bytes = Vec::from_slice(alloc, b"QA==")?;
+    Ok(Reply::Changed(Bytes { bytes }))
+}
+
 /// A list of no disk.
 fn no_disks(alloc: Global) -> Reply {
     let rows = Vec::new(alloc);
@@ -547,6 +566,7 @@ fn plain_replies_and_lists(rt: HostRuntime) -> Result<(), Fail> {
         "ok 18446744073709551615\n",
     )?;
     prints(&rt, alloc, bytes(alloc)?, "ok 005eff\n")?;
+    prints(&rt, alloc, second_piece(alloc)?, "ok QA==\n")?;
     prints(&rt, alloc, no_disks(alloc), "ok 0\n")?;
     prints(&rt, alloc, disks(alloc)?, DISKS)
 }
