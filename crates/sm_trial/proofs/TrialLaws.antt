@@ -1,5 +1,6 @@
 -- A trial, line by line.
-use Rattle.std.proofs.Common.{◌≡◌, ◌≢◌, ℕ, suc, ◌-◌, ◌<◌, arith, Result, Ok, Err, refl, sym, ap, ◌∙◌}
+use Rattle.std.proofs.Common.{◌≡◌, ◌≢◌, ℕ, suc, ◌-◌, ◌<◌, arith, Result, Ok, Err, refl, sym, ap, ◌∙◌, subst}
+use Rattle.std.specs.Prelude.{OnOk}
 use Rattle.sm_machine.specs.Runs.{taken, after_run, ample}
 use Rattle.sm_machine.specs.Steps.{State}
 use Rattle.sm_trial.specs.declared.tallies.Tally.{Tally}
@@ -29,6 +30,10 @@ comes-end σ σ' t left x x' none c = let e = rw none at c in record { state = e
 -- what succeeded did not fail
 pub ok_no_err : {A E : Type 0} (x : A) (e : E) {r : Result A E} → r ≡ Ok x → r ≢ Err e
 ok_no_err x e is failed = let h = sym is ∙ failed in (let k = h in cc)
+
+-- a failure owes nothing that a success owes
+pub owes_nothing : {A E : Type 0} {r : Result A E} (e : E) (P : Type 0) → r ≡ Err e → OnOk r P
+owes_nothing e P is = subst (λ x. OnOk x P) (sym is) tt
 
 -- a failure that is answered as it came
 pub as_answered : {A B E : Type 0} {r : Result A E} {s : Result B E} (x y e : E) → r ≡ Err x → s ≡ Err y → y ≡ x → s ≢ Err e → r ≢ Err e

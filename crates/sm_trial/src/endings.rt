@@ -1,6 +1,6 @@
 //! What is counted of a machine where a trial has ended.
 
-ghost use Rattle.std.specs.Prelude.{◌≡◌, ◌≢◌, ◌≤◌, false, length, IfOk, Err};
+ghost use Rattle.std.specs.Prelude.{◌≡◌, ◌≢◌, ◌≤◌, false, length, IfOk, OnOk, Err};
 ghost use Rattle.sm_base.specs.declared.faults.CallFault.TheVariants as fault;
 ghost use Rattle.sm_disk.specs.Held.{Keeps, Rose};
 ghost use Rattle.sm_machine.specs.declared.commands.Command.TheVariants.{List as Listing, Stat};
@@ -26,6 +26,7 @@ fn count_disks<M: Steps>(alloc: Global, machine: &mut M) -> Result<u64, CallFaul
     ensures counted { IfOk result (λ n. M.told → M.ready machine.old
         → (n ≡ length (M.state machine.old).disks) × (M.state machine.new ≡ (tracked_step (M.state machine.old) Listing).after) × M.ready machine.new) }
     ensures kept { M.told → M.ready machine.old → M.kept machine.new }
+    ensures truthful { M.told → M.ready machine.old → M.telling machine.old → M.truthful machine.new × OnOk result (M.telling machine.new) }
     ensures site { M.site machine.new ≡ M.site machine.old }
     ensures beside { M.told → Keeps (M.beside machine.old) (M.beside machine.new) }
     ensures counts { M.faults machine.old ≤ M.faults machine.new }
@@ -46,6 +47,7 @@ fn count_images<M: Steps>(alloc: Global, machine: &mut M) -> Result<(u64, u32), 
         → (n.0 ≡ length (M.state machine.old).shape.images) × (n.1 ≡ free (M.state machine.old).shape)
         × (M.state machine.new ≡ (tracked_step (M.state machine.old) Stat).after) × M.ready machine.new) }
     ensures kept { M.told → M.ready machine.old → M.kept machine.new }
+    ensures truthful { M.told → M.ready machine.old → M.telling machine.old → M.truthful machine.new × OnOk result (M.telling machine.new) }
     ensures site { M.site machine.new ≡ M.site machine.old }
     ensures beside { M.told → Keeps (M.beside machine.old) (M.beside machine.new) }
     ensures counts { M.faults machine.old ≤ M.faults machine.new }
@@ -67,6 +69,7 @@ fn count_images<M: Steps>(alloc: Global, machine: &mut M) -> Result<(u64, u32), 
 pub fn count_all<M: Steps>(alloc: Global, machine: &mut M) -> Result<Ending, CallFault>
     ensures counted { IfOk result (λ e. M.told → M.ready machine.old → HasCounted (M.state machine.old) (M.state machine.new) e × M.ready machine.new) }
     ensures kept { M.told → M.ready machine.old → M.kept machine.old → M.kept machine.new }
+    ensures truthful { M.told → M.ready machine.old → M.telling machine.old → M.truthful machine.new × OnOk result (M.telling machine.new) }
     ensures site { M.site machine.new ≡ M.site machine.old }
     ensures beside { M.told → Keeps (M.beside machine.old) (M.beside machine.new) }
     ensures counts { M.faults machine.old ≤ M.faults machine.new }

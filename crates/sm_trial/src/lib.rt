@@ -7,7 +7,7 @@
 //! At `Ok` the machine's state is the one behind all of them, and the tally is that of the machine's replies (`HasTried` in
 //! `specs/Tallies`); no line found memory wanting. [`count_all`] asks for a `list` and a `stat` and counts their rows (`HasCounted` in
 //! `specs/Endings`). At every return whatever a stop leaves opens again, and a call of the device failed exactly where the answer is
-//! `Device`.
+//! `Device`. Where what the logs of tracked disks tell was true as a call began, whatever a stop leaves is truthful at its return (`truthful`).
 //!
 //! **What it costs.** The room for the bytes of a line, 32,256 bytes, taken once; for each reply the memory of its text, which is given
 //! back at once; and the memory of the steps. A reply of more than 65,536 bytes is answered with want of memory, since a sum has 64 bits.

@@ -28,6 +28,7 @@ fn step<M: Steps>(
 ) -> Result<Reply, StepFault>
     ensures stepped { M.told → M.ready machine.old → M.kept machine.old → (line : List ℕ) → option_copied command.entry ≡ spelled line
         → IsStepped (M.state machine.old) (M.state machine.new) line result (M.ready machine.new) (M.kept machine.new) }
+    ensures truthful { M.told → M.ready machine.old → M.telling machine.old → M.truthful machine.new × OnOk result (M.telling machine.new) }
     ensures site { M.site machine.new ≡ M.site machine.old }
     ensures beside { M.told → Keeps (M.beside machine.old) (M.beside machine.new) }
     ensures counts { M.faults machine.old ≤ M.faults machine.new }
@@ -49,6 +50,7 @@ fn step_line<M: Steps>(
 ) -> (Result<Reply, StepFault>, LineBytes)
     ensures stepped { M.told → M.ready machine.old → M.kept machine.old
         → IsStepped (M.state machine.old) (M.state machine.new) line.now result.0 (M.ready machine.new) (M.kept machine.new) }
+    ensures truthful { M.told → M.ready machine.old → M.telling machine.old → M.truthful machine.new × OnOk result.0 (M.telling machine.new) }
     ensures site { M.site machine.new ≡ M.site machine.old }
     ensures beside { M.told → Keeps (M.beside machine.old) (M.beside machine.new) }
     ensures counts { M.faults machine.old ≤ M.faults machine.new }
@@ -95,6 +97,7 @@ fn try_line<M: Steps>(
     ensures goes { IfOk result (λ r. M.told → M.ready machine.old → M.kept machine.old
         → Goes (M.state machine.old) tally.old trial.old (M.state machine.new) tally.new trial.new (M.ready machine.new)) }
     ensures kept { M.told → M.ready machine.old → M.kept machine.old → M.kept machine.new }
+    ensures truthful { M.told → M.ready machine.old → M.kept machine.old → M.telling machine.old → M.truthful machine.new × OnOk result (M.telling machine.new) }
     ensures within { OnOk result (IsWithin tally.new left) }
     ensures site { M.site machine.new ≡ M.site machine.old }
     ensures beside { M.told → Keeps (M.beside machine.old) (M.beside machine.new) }
@@ -123,6 +126,7 @@ pub fn try_lines<M: Steps>(alloc: Global, machine: &mut M, number: u64) -> Resul
     ensures tried { IfOk result (λ tally. M.told → M.ready machine.old → M.kept machine.old
         → HasTried (M.state machine.old) (M.state machine.new) (trial_lines number) tally × M.ready machine.new) }
     ensures kept { M.told → M.ready machine.old → M.kept machine.old → M.kept machine.new }
+    ensures truthful { M.told → M.ready machine.old → M.kept machine.old → M.telling machine.old → M.truthful machine.new × OnOk result (M.telling machine.new) }
     ensures site { M.site machine.new ≡ M.site machine.old }
     ensures beside { M.told → Keeps (M.beside machine.old) (M.beside machine.new) }
     ensures counts { M.faults machine.old ≤ M.faults machine.new }

@@ -37,3 +37,6 @@ pub returns-in-None-clause-stepped : goal.returns-in-None-clause-stepped
 returns-in-None-clause-stepped g c = λ told ready kept line spells.
     let same = of_none (g.M.Steps.state c.args.machine.now) line (sym (ap option_copied c.in-None.is) ∙ spells) in
     record { reply = inr (ap (λ (o : Outcome). o.reply) (sym same), ap (λ (o : Outcome). o.after) (sym same)); ready = ready; kept = kept }
+
+pub returns-in-None-clause-truthful : goal.returns-in-None-clause-truthful
+returns-in-None-clause-truthful g c = λ told ready telling. (g.met.M.Steps.tells_now c.args.machine.now told ready telling, telling)

@@ -13,6 +13,7 @@ invariant-loop-left g l = record {
       (tally_after (g.M.Steps.state l.fn.machine) (ample (trial_lines l.fn.number)) no_replies);
   ready : g.M.Steps.told → g.M.Steps.ready l.fn.machine → g.M.Steps.kept l.fn.machine → g.M.Steps.ready l.machine;
   kept : g.M.Steps.told → g.M.Steps.ready l.fn.machine → g.M.Steps.kept l.fn.machine → g.M.Steps.kept l.machine;
+  telling : g.M.Steps.told → g.M.Steps.ready l.fn.machine → g.M.Steps.kept l.fn.machine → g.M.Steps.telling l.fn.machine → g.M.Steps.telling l.machine;
   within : IsWithin l.tally l.left;
   going_on : g.M.Steps.broken l.fn.machine ≡ false → g.M.Steps.broken l.machine ≡ false;
   site : g.M.Steps.site l.machine ≡ g.M.Steps.site l.fn.machine;
