@@ -4,16 +4,19 @@ use Rattle.sm_base.specs.declared.names.Name.TheVariants.{Cbt}
 use Rattle.sm_disk.specs.Held.{IsSettled}
 use Rattle.vg_extents.specs.Fits.{AreLeastFree}
 use Rattle.vg_meta.specs.Changes.{applied}
+use Rattle.vg_meta.specs.Roomy.{table_alone}
 use Rattle.vg_meta.specs.Tables.{VolumeTable}
 use Rattle.vg_meta.specs.declared.changes.Change.TheVariants.{Create, Mark}
 use Rattle.vg_meta.specs.declared.changes.Tag.TheVariants.{Fresh}
 use Rattle.vg_volumes.specs.Sites.{Site}
 use Rattle.vg_volumes.specs.declared.stores.Store.{Ghosts}
 use Rattle.sm_log.specs.Logs.{Log, bit, log_of}
+use Rattle.sm_machine.specs.Refusals.{log_room}
 use Rattle.sm_standing.specs.Contents.{Content}
 use Rattle.sm_standing.specs.Keeping.{IsKept}
 use Rattle.sm_standing.specs.Logs.{IsLogOf}
 use Rattle.sm_standing.specs.Standing.{disks}
+use Rattle.sm_ready.specs.Does.{store_shape}
 use Rattle.sm_ready.specs.Sessions.{IsReadyStore}
 use Rattle.sm_ready.specs.Stores.{MayShow, StoreLeaves, content_in, store_content}
 use Rattle.sm_ready.specs.declared.memory.Memory.{Memory}
@@ -52,6 +55,10 @@ pub record IsLogOnLeast (s : Site) (t : VolumeTable) (u : List ℕ) (count : ℕ
   pub extents : List ℕ
   pub least : AreLeastFree s.count count t extents
   pub made : next ≡ table_logged t u extents
+
+-- a call left a new log of a disk in the table of a store, on the least extents that were free, as many as the machine says
+abbrev pub HasLogOnLeast : {S : Type 0} → Ghosts S → S → Memory → S → List ℕ → Type 0
+HasLogOnLeast g old m new u = IsLogOnLeast (g.site old) (table_alone (g.table old)) u (log_room (store_shape g old m) u) (table_alone (g.table new))
 
 -- ---- a call
 

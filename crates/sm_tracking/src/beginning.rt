@@ -1,13 +1,10 @@
 //! Tracking of a disk begins.
 
-ghost use Rattle.std.specs.Prelude.{◌≡◌, ◌<◌, ◌⊎◌, ℕ, List, None, true, length, OnErr, OnOk};
-ghost use Rattle.sm_base.specs.Names.{IsUuid};
+ghost use Rattle.std.specs.Prelude.{◌≡◌, ◌<◌, ◌⊎◌, ℕ, List, None, true, OnErr, OnOk};
 ghost use Rattle.sm_base.specs.declared.faults.CallFault.TheVariants as fault;
 ghost use Rattle.sm_disk.specs.Held.{IsSettled};
 ghost use Rattle.sm_machine.specs.declared.commands.Command.TheVariants.{Track};
-ghost use Rattle.sm_machine.specs.Refusals.{log_room};
 ghost use Rattle.sm_machine.specs.Tracking.{begun};
-ghost use Rattle.vg_meta.specs.Roomy.{table_alone};
 ghost use Rattle.vg_meta.specs.Tables.{VolumeTable};
 ghost use Rattle.vg_volumes.specs.Stored.{OnlyReads};
 ghost use Rattle.sm_ready.specs.Does.{store_shape};
@@ -16,8 +13,9 @@ ghost use Rattle.sm_ready.specs.Refusing.{IsAllowed};
 ghost use Rattle.sm_ready.specs.Sessions.{IsReadyStore};
 ghost use Rattle.sm_ready.specs.Stores.{StoreLeaves, content_in};
 ghost use Rattle.sm_standing.specs.Logs.{IsLogOf};
-ghost use Rattle.sm_tracking.specs.Tracking.{HasChangedLogs, IsLogOnLeast};
+ghost use Rattle.sm_tracking.specs.Tracking.{HasChangedLogs, HasLogOnLeast};
 
+use crate::rooms::law_uuid;
 use sm_base::CallFault;
 use sm_cbt::start;
 use sm_logs::LOG_LIMIT;
@@ -26,14 +24,6 @@ use std::alloc::Global;
 use uuid::Uuid;
 use vg_extents::first_fit;
 use vg_volumes::Store;
-
-/// Sixteen bytes are those of a UUID. The call does nothing.
-fn law_uuid(bytes: &[u8])
-    requires { length bytes.now ≡ 16 }
-    ensures { IsUuid bytes.now }
-{
-    let _count = bytes.len();
-}
 
 /// Makes the log of a disk, where no cause refuses it, on the least extents that are free. All memory is taken before anything is written. Where it
 /// succeeded nothing is pending. A stop leaves no log of the disk, or a table whose sequence number is above 0, as those of the new log are 0.
@@ -59,7 +49,7 @@ pub fn begin<S: Store>(
         → OnlyReads S.Store store.old store.new × ((t : VolumeTable) (image : ℕ → List ℕ) → S.leaves store.new t image → S.leaves store.old t image) }
     ensures shape { OnOk result (store_shape S.Store store.new memory.new ≡ begun (store_shape S.Store store.old memory.old) disk.now) }
     ensures lasting { OnOk result (S.told → IsSettled (S.area store.new)) }
-    ensures least { OnOk result (IsLogOnLeast (S.site store.old) (table_alone (S.table store.old)) disk.now (log_room (store_shape S.Store store.old memory.old) disk.now) (table_alone (S.table store.new))) }
+    ensures least { OnOk result (HasLogOnLeast S.Store store.old memory.old store.new disk.now) }
     ensures numbered { S.told → IsReadyStore S.Store store.old memory.old → (v : VolumeTable) (image : ℕ → List ℕ) → StoreLeaves S.Store store.new v image
         → IsLogOf (content_in (S.site store.old) v image) disk.now None ⊎ (0 < v.sequence) }
     ensures tracked { S.told → IsReadyStore S.Store store.old memory.old

@@ -30,7 +30,7 @@ pub struct Room {
 }
 
 /// Sixteen bytes are those of a UUID. The call does nothing.
-fn law_uuid(bytes: &[u8])
+pub(crate) fn law_uuid(bytes: &[u8])
     requires { length bytes.now ≡ 16 }
     ensures { IsUuid bytes.now }
 {
