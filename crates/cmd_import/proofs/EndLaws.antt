@@ -1,10 +1,10 @@
 -- The end of an import whose file was read whole: its image is sealed and its disk completed, or a call of the store failed.
-use Rattle.std.proofs.Common.{◌≡◌, inr, ℕ, ◌+◌, ◌-◌, ◌*◌, ◌/◌, ◌^◌, min, Bool, true, false, List, length, map, Option, None, Some, Result, Err, Ok, refl, sym, ap, ap₂, ◌∙◌, subst, subst₂, arith}
+use Rattle.std.proofs.Common.{◌≡◌, ◌⊎◌, inl, inr, ⊎_elim, ℕ, ◌+◌, ◌-◌, ◌*◌, ◌/◌, ◌^◌, min, Bool, true, false, List, length, map, Option, None, Some, Result, Err, Ok, refl, sym, ap, ap₂, ◌∙◌, subst, subst₂, arith}
 use Rattle.std.specs.Int.{div_ceil}
 use Rattle.std.specs.Prelude.{IfSome, OnOk}
 use Rattle.std.proofs.lemmas.Bool.{true≢false}
 use Rattle.common_laws.specs.Lists.{In, numbers}
-use Rattle.common_laws.proofs.Lists.{In-insert_old}
+use Rattle.common_laws.proofs.Lists.{In-insert, In-insert_old}
 use Rattle.sm_base.proofs.NumberLemmas.{div_up-div_ceil}
 use Rattle.sm_base.specs.Names.{base_uuid}
 use Rattle.sm_base.specs.declared.names.Name.{Name}
@@ -80,6 +80,10 @@ module _ {S : Type 0} (g : Ghosts S) (b d : S) (m : Memory) (u : List ℕ) (f : 
     unfolding with_disk
     still_there d i = In-insert_old _ disk was d i
 
+    one_more : (d : Disk) → In d (with_disk disk was) → (d.uuid ≡ u) ⊎ In d was
+    unfolding with_disk
+    one_more d i = ⊎_elim (λ e. inl (ap (λ (x : Disk). x.uuid) e)) inr (In-insert _ disk was d i)
+
     one_joined : (o : Option (List ℕ)) → IfSome o (λ bs. IsMadeOf (target_from g a m) bs sectors made.puts) → IfSome o (λ bs. IsJoined (target_from g a m) u bs was (with_disk disk was))
     one_joined None h = tt
     one_joined (Some bs) h = record {
@@ -97,6 +101,7 @@ module _ {S : Type 0} (g : Ghosts S) (b d : S) (m : Memory) (u : List ℕ) (f : 
             ends = with_disk disk was;
             ends_with = one_joined bytes made.made;
             still = still_there;
+            others = one_more;
             done = record {
               ready = λ sure. done.ready fine;
               settled = λ sure. done.settled fine;
@@ -113,6 +118,7 @@ module _ {S : Type 0} (g : Ghosts S) (b d : S) (m : Memory) (u : List ℕ) (f : 
             ends = with_disk disk was;
             ends_with = inr (one_joined bytes made.made);
             still = still_there;
+            others = one_more;
             done = record {
               ready = λ sure. absurd (true≢false (sym sure));
               settled = λ sure. absurd (true≢false (sym sure));

@@ -1,5 +1,5 @@
 -- An import that ends without a disk: a stop leaves the disks from before.
-use Rattle.std.proofs.Common.{◌≡◌, ◌≤◌, ⊎_elim, inl, List, ℕ, Option, Result, Ok, Err, Bool, true, false, refl, sym, ap, ◌∙◌, subst, subst₂, arith}
+use Rattle.std.proofs.Common.{◌≡◌, ◌≤◌, ⊎_elim, inl, inr, List, ℕ, Option, Result, Ok, Err, Bool, true, false, refl, sym, ap, ◌∙◌, subst, subst₂, arith}
 use Rattle.std.specs.Prelude.{IfErr, OnOk}
 use Rattle.std.proofs.lemmas.Bool.{true≢false}
 use Rattle.sm_disk.specs.Held.{Keeps, Rose}
@@ -40,6 +40,7 @@ module _ {S : Type 0} (g : Ghosts S) (u : List ℕ) (bytes : Option (List ℕ)) 
     ends = disks (store_content g a);
     ends_with = same_ends (target_from g a m) u bytes (disks (store_content g a)) f;
     still = λ d i. i;
+    others = λ d i. inr i;
     done = record {
       ready = λ ok. absurd (true≢false (sym ok));
       settled = λ ok. absurd (true≢false (sym ok));
@@ -56,6 +57,7 @@ module _ {S : Type 0} (g : Ghosts S) (u : List ℕ) (bytes : Option (List ℕ)) 
     ends = disks (store_content g a);
     ends_with = same_ends (target_from g a m) u bytes (disks (store_content g a)) f;
     still = λ d i. i;
+    others = λ d i. inr i;
     done = record {
       ready = λ ok. absurd (true≢false (sym ok));
       settled = λ ok. absurd (true≢false (sym ok));

@@ -77,12 +77,13 @@ EndsWith t uuid bytes was ds (Err fault.Long) = ds ≡ was
 EndsWith t uuid bytes was ds (Err fault.Source) = ds ≡ was
 EndsWith t uuid bytes was ds (Err fault.NoMemory) = ds ≡ was
 
--- What an import did to a store: each image that a stop leaves is kept, and shows the disks from before it or those at its end, among which
--- those from before are.
+-- What an import did to a store: each image that a stop leaves is kept, and shows the disks from before it or those at its end: those from
+-- before, and none beside them but the one with the UUID.
 pub record HasImported {S : Type 0} (g : Ghosts S) (uuid : List ℕ) (bytes : Option (List ℕ)) (m m' : Memory) (old new : S) (result : Result ℕ ImportFault) : Type 0 where
   pub ends : List Disk
   pub ends_with : EndsWith (target_in (shape_of g old m)) uuid bytes (disks (store_content g old)) ends result
   pub still : (d : Disk) → In d (disks (store_content g old)) → In d ends
+  pub others : (d : Disk) → In d ends → (d.uuid ≡ uuid) ⊎ In d (disks (store_content g old))
   pub done : HasDone (g.site old) (table_alone (g.table old)) (table_alone (g.table new)) (g.area old) (g.area new) (known m') (StoreLeaves g old) (StoreLeaves g new) (IsOk result) ends
 
 -- One image came into the tree, that of the disk: in its volume and all of it, visible, without a parent, of so many bytes, made at this time;
