@@ -1,18 +1,17 @@
 -- What the logs of tracked disks tell stays true over an import: no log changes, and the disk that is made had none.
-use Rattle.std.proofs.Common.{◌≡◌, ◌≢◌, ◌⊎◌, inl, inr, ⊎_elim, ℕ, List, map, Option, Some, None, Result, Ok, Err, Bool, true, false, refl, sym, ap, ◌∙◌, subst}
+use Rattle.std.proofs.Common.{◌≡◌, ◌⊎◌, inr, ⊎_elim, ℕ, List, Option, Some, None, Result, Err, true, false, refl, sym, ap, ◌∙◌, subst}
 use Rattle.std.proofs.Math.Logic.{∥∥₁_elim}
 use Rattle.std.proofs.Props.{props}
 use Rattle.common_laws.specs.Lists.{In}
-use Rattle.common_laws.proofs.Lists.{In-insert}
 use Rattle.cmd_import.proofs.EntryLaws.{first_none}
-use Rattle.cmd_import.specs.Importing.{EndsWith, HasImported, IsJoined, shape_of, target_in}
+use Rattle.cmd_import.specs.Importing.{EndsWith, HasImported, shape_of, target_in}
 use Rattle.sm_base.specs.declared.refusals.Refusal.{Refusal}
 use Rattle.sm_disk.proofs.HeldLaws.{Allows-reads}
 use Rattle.sm_disk.specs.Held.{reads}
 use Rattle.sm_log.specs.Logs.{Log}
 use Rattle.sm_log.proofs.TellLaws.{tells_elsewhere}
 use Rattle.sm_machine.proofs.Fresh
-use Rattle.sm_machine.specs.Disks.{Disk, with_disk}
+use Rattle.sm_machine.specs.Disks.{Disk}
 use Rattle.sm_machine.specs.Refusals.{is_reserved, is_taken, new_uuid}
 use Rattle.sm_machine.specs.Runs.{Face, HasSector, face}
 use Rattle.sm_machine.specs.Shapes.{Shape}
@@ -39,7 +38,6 @@ use Rattle.sm_standing.specs.Standing.{disks}
 use Rattle.vg_meta.specs.Tables.{VolumeTable}
 use Rattle.vg_volumes.specs.Sites.{Site, area_size}
 use Rattle.vg_volumes.specs.declared.stores.Store.{Ghosts}
-use Rattle.vhd_import.specs.Verdicts.{imported}
 use Rattle.vhd_import.specs.declared.faults.ImportFault.{ImportFault}
 use Rattle.vhd_import.specs.declared.faults.ImportFault.TheVariants as fault
 
@@ -54,40 +52,23 @@ not_logged s w good u none l i same =
     let r = (good.good l i).disk in
     Fresh.no_record s w u two.0 r.0 r.1 (r.2 ∙ same)
 
-module _ (s : Shape) (w : IsWellFormed s) (good : AreGoodLogs s) (u bytes : List ℕ) (was : List Disk) where
+module _ (s : Shape) (w : IsWellFormed s) (good : AreGoodLogs s) (u : List ℕ) (content : Option (List ℕ)) (was : List Disk) where
   -- a disk at the end with the UUID of a log is one from before
   abbrev pub IsFresh : List Disk → Type 0
   IsFresh ends = (l : Log) → In l s.logs → (d : Disk) → In d ends → d.uuid ≡ l.disk → In d was
 
-  same_fresh : (ends : List Disk) → ends ≡ was → IsFresh ends
-  same_fresh ends is l i d j own = subst (In d) is j
-
-  joined_fresh : (ends : List Disk) → entry_refusal s u ≡ None → IsJoined (target_in s) u bytes was ends → IsFresh ends
-  unfolding with_disk imported
-  joined_fresh ends none j l i d at own = ⊎_elim
-      (λ e. absurd (not_logged s w good u none l i (sym own ∙ ap (λ (x : Disk). x.uuid) e)))
-      (λ k. k) (In-insert _ (imported (target_in s).block u j.sectors) was d (subst (In d) j.disks_are at))
-
   -- what was refused is refused alone
-  pub ends_fresh : (ends : List Disk) (result : Result ℕ ImportFault) → ((r : Refusal) → entry_refusal s u ≡ Some r → result ≡ Err (fault.Refused r)) → EndsWith (target_in s) u (Some bytes) was ends result → IsFresh ends
-  ends_fresh ends (Ok size) refused with = by (entry_refusal s u) refl
+  pub ends_fresh : (ends : List Disk) (result : Result ℕ ImportFault) → ((r : Refusal) → entry_refusal s u ≡ Some r → result ≡ Err (fault.Refused r)) → EndsWith (target_in s) u content was ends result
+      → ((d : Disk) → In d ends → (d.uuid ≡ u) ⊎ In d was) → IsFresh ends
+  ends_fresh ends result refused with others = by (entry_refusal s u) refl
     where
       by : (o : Option Refusal) → entry_refusal s u ≡ o → IsFresh ends
-      by None e = joined_fresh ends e with
-      by (Some r) e = let z : Ok size ≡ Err (fault.Refused r) = refused r e in absurd cc
-  ends_fresh ends (Err fault.Device) refused with = by (entry_refusal s u) refl
-    where
-      by : (o : Option Refusal) → entry_refusal s u ≡ o → IsFresh ends
-      by None e = ⊎_elim (same_fresh ends) (joined_fresh ends e) with
-      by (Some r) e = let z : Err fault.Device ≡ Err (fault.Refused r) = refused r e in absurd cc
-  ends_fresh ends (Err (fault.Refused r)) refused with = same_fresh ends with
-  ends_fresh ends (Err fault.Long) refused with = same_fresh ends with
-  ends_fresh ends (Err fault.Source) refused with = same_fresh ends with
-  ends_fresh ends (Err fault.NoMemory) refused with = same_fresh ends with
+      by None e = λ l i d j own. ⊎_elim (λ same. absurd (not_logged s w good u e l i (sym own ∙ same))) (λ k. k) (others d j)
+      by (Some r) e = let same : ends ≡ was = subst (EndsWith (target_in s) u content was ends) (refused r e) with in (λ l i d j own. subst (In d) same j)
 
 -- ---- whatever a stop leaves
 
-module _ {S : Type 0} {g : Ghosts S} {a n : S} {m m' : Memory} {u : List ℕ} {result : Result ℕ ImportFault} (bytes : List ℕ) (i : HasImported g u (Some bytes) m m' a n result)
+module _ {S : Type 0} {g : Ghosts S} {a n : S} {m m' : Memory} {u : List ℕ} {content : Option (List ℕ)} {result : Result ℕ ImportFault} (i : HasImported g u content m m' a n result)
     (orderly : IsOrderlyStore g a m) (usable : g.failed a ≡ false) (told : g.told) (ready : IsReadyStore g a m) (good : ∥ AreGoodLogs (store_shape g a m) ∥₁) (was_told : AreTold (g.site a) (StoreLeaves g a) (store_shape g a m)) where
   abbrev σ : State
   σ = store_state g a m
@@ -109,14 +90,14 @@ module _ {S : Type 0} {g : Ghosts S} {a n : S} {m m' : Memory} {u : List ℕ} {r
         λ e at alike. ap (λ (f : Face). f.read_only) alike ∙ state_taken σ now was_told.taken l (there l j) tagged e at (sym (ap (λ (f : Face). f.uuid) alike) ∙ own) in
         ⊎_elim (λ early. (let e = seen d (disks c) σ.disks k early in kept e.0 e.1 e.2))
         (λ late. (let e = seen d (disks c) i.ends k late in kept e.0
-        (ends_fresh σ.shape w x u bytes σ.disks i.ends result refused i.ends_with l (there l j) e.0 e.1 (sym (ap (λ (f : Face). f.uuid) e.2) ∙ own)) e.2))
+        (ends_fresh σ.shape w x u content σ.disks i.ends result refused i.ends_with i.others l (there l j) e.0 e.1 (sym (ap (λ (f : Face). f.uuid) e.2) ∙ own)) e.2))
         (faces_between (MayShow (g.site a) (StoreLeaves g a)) σ.disks i.ends (disks c) between)));
     told = λ p q k x y in_p in_q follows sx sy ne. ∥∥₁_elim orderly.well_formed (hlevel props) (λ w. ∥∥₁_elim good (hlevel props) (λ z.
         tells_elsewhere (ShownBy (g.site a) (StoreLeaves g a)) (HasSector (disks c)) m.logs (logs c) was_told.tells there
         (λ l b s j has. ⊎_elim (λ still. still.sectors l.disk b s has) (λ already. ⊎_elim (λ before. before) (λ (e : HasSector i.ends l.disk b s).
         read_may l.disk b s (record {
           disk = e.disk;
-          is_there = ends_fresh σ.shape w z u bytes σ.disks i.ends result refused i.ends_with l (there l j) e.disk e.is_there e.is_named;
+          is_there = ends_fresh σ.shape w z u content σ.disks i.ends result refused i.ends_with i.others l (there l j) e.disk e.is_there e.is_named;
           is_named = e.is_named;
           holds = e.holds;
         })) (already.sectors l.disk b s has)) between)

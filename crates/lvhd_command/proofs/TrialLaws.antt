@@ -1,5 +1,5 @@
 -- What a trial did, status by status.
-use Rattle.std.proofs.Common.{◌≡◌, ◌≢◌, ◌⊎◌, inl, inr, ℕ, ◌*◌, ◌<◌, ◌^◌, List, [], Option, Some, Result, Ok, Err, is_err, cond, length, lit≤, refl, sym, ap, ap₂, ◌∙◌, subst, arith}
+use Rattle.std.proofs.Common.{◌≡◌, ◌≢◌, ◌⊎◌, inl, inr, ⊎_elim, ℕ, ◌*◌, ◌<◌, ◌^◌, List, [], Option, Some, Result, Ok, Err, is_err, cond, length, lit≤, refl, sym, ap, ap₂, ◌∙◌, subst, arith}
 use Rattle.std.specs.Prelude.{⊤}
 use lib.Count.{ones}
 use Rattle.sm_base.specs.Numbers.{IsGeometry, div_up}
@@ -33,7 +33,7 @@ use Rattle.vg_store.specs.Openings.{IsAnswer}
 use Rattle.lvhd_command.specs.declared.statuses.Status.{Status}
 use Rattle.lvhd_command.specs.declared.statuses.Status.TheVariants.{Done, Words, Device, Source, Sink, Refused, Memory, TooLong, Denied}
 use Rattle.lvhd_command.specs.declared.words.Form.TheVariants.{Trial}
-use Rattle.lvhd_command.specs.Devices.{IsKeptDevice, IsOpenedOn, IsRefusedOn, IsSoundOn}
+use Rattle.lvhd_command.specs.Devices.{IsKeptDevice, IsOpenedOn, IsRefusedOn, IsSoundOn, IsTruthfulDevice, IsTruthfulOn}
 use Rattle.lvhd_command.specs.Formatting.{HasSizes, Sides}
 use Rattle.vg_layout.specs.Places.{area_place, best_layout, new_extents}
 use Rattle.vg_layout.specs.Sectors.{Plate}
@@ -44,6 +44,7 @@ use Rattle.lvhd_command.specs.Trials.{HasTriedFrom, IsLeftByTrial, IsTooSmall, S
 use Rattle.lvhd_command.proofs.ExactLaws.{sound_or_refused}
 use Rattle.lvhd_command.proofs.FormattedLaws.{formatted_kept, formatted_start}
 use Rattle.lvhd_command.proofs.OpenLaws.{kept_sound}
+use Rattle.lvhd_command.proofs.TruthLaws.{new_truthful, nothing_truthful}
 
 -- ---- a line that was to be printed
 
@@ -76,22 +77,22 @@ too_small s extent sectors sized same small is = record {
 
 -- a call that failed, or found no memory: nothing was said
 pub call_failed : (size : ℕ) (h : Held) (had : Option (List ℕ)) (start : State) (number : ℕ) (why : CallFault) (status : Status) → ((why ≡ fault.Device) × (status ≡ Device)) ⊎ ((why ≡ fault.NoMemory) × (status ≡ Memory))
-    → IsKeptDevice size h → SessionTried size h had had start number status
-call_failed size h had start number why status (inl is) kept = subst (SessionTried size h had had start number) (sym is.1) (kept, Adds-none had)
-call_failed size h had start number why status (inr is) kept = subst (SessionTried size h had had start number) (sym is.1) (kept, Adds-none had)
+    → IsKeptDevice size h → IsTruthfulDevice size h → SessionTried size h had had start number status
+call_failed size h had start number why status (inl is) kept truthful = subst (SessionTried size h had had start number) (sym is.1) (kept, truthful, Adds-none had)
+call_failed size h had start number why status (inr is) kept truthful = subst (SessionTried size h had had start number) (sym is.1) (kept, truthful, Adds-none had)
 
 -- all lines were stepped, and what was counted was said, or could not be
-pub session_said : (size : ℕ) (h : Held) (had got : Option (List ℕ)) (start : State) (number : ℕ) (text : List ℕ) (status : Status) → SaysTrial text had got status → (status ≢ Device → HasTriedFrom size h start number text) → IsKeptDevice size h
+pub session_said : (size : ℕ) (h : Held) (had got : Option (List ℕ)) (start : State) (number : ℕ) (text : List ℕ) (status : Status) → SaysTrial text had got status → (status ≢ Device → HasTriedFrom size h start number text) → IsKeptDevice size h → IsTruthfulDevice size h
     → SessionTried size h had got start number status
-session_said size h had got start number text Done says tried kept = (text, tried (λ e. let x = e in cc), says)
-session_said size h had got start number text Sink says tried kept = (text, tried (λ e. let x = e in cc), says)
-session_said size h had got start number text Device says tried kept = (kept, says)
-session_said size h had got start number text Memory says tried kept = absurd says
-session_said size h had got start number text Refused says tried kept = absurd says
-session_said size h had got start number text Words says tried kept = absurd says
-session_said size h had got start number text Source says tried kept = absurd says
-session_said size h had got start number text TooLong says tried kept = absurd says
-session_said size h had got start number text Denied says tried kept = absurd says
+session_said size h had got start number text Done says tried kept truthful = (text, tried (λ e. let x = e in cc), says)
+session_said size h had got start number text Sink says tried kept truthful = (text, tried (λ e. let x = e in cc), says)
+session_said size h had got start number text Device says tried kept truthful = (kept, truthful, says)
+session_said size h had got start number text Memory says tried kept truthful = absurd says
+session_said size h had got start number text Refused says tried kept truthful = absurd says
+session_said size h had got start number text Words says tried kept truthful = absurd says
+session_said size h had got start number text Source says tried kept truthful = absurd says
+session_said size h had got start number text TooLong says tried kept truthful = absurd says
+session_said size h had got start number text Denied says tried kept truthful = absurd says
 
 -- it does nothing to logs
 list_unlogged : (σ : State) → tracked_step σ ListDisks ≡ step σ ListDisks
@@ -133,8 +134,8 @@ trial_did s number start status is t = by status (subst (λ (x : State). Session
     by : (x : Status) → SessionTried s.size s.new s.had s.got (trial_start s.size) number x → TrialDid s number x
     by Done h = h
     by Sink h = (h.0, inr h.1, h.2)
-    by Device h = ((λ image allowed. inr (inr (h.0 image allowed))), h.1)
-    by Memory h = ((λ image allowed. inr (inr (h.0 image allowed))), h.1)
+    by Device h = ((λ image allowed. inr (inr (h.0 image allowed, h.1 image allowed))), h.2)
+    by Memory h = ((λ image allowed. inr (inr (h.0 image allowed, h.1 image allowed))), h.2)
     by Refused h = absurd h
     by Words h = absurd h
     by Source h = absurd h
@@ -143,13 +144,13 @@ trial_did s number start status is t = by status (subst (λ (x : State). Session
 
 -- what a format left
 left_one : (size : ℕ) (old : Held) (image : ℕ → List ℕ) (g : Geometry) (repository : List ℕ) → IsLeftByFormat size old g repository image
-    → Allows size old image ⊎ ((plate_of size image ≡ Err opening.NotARepository) ⊎ IsKeptOn size image)
+    → Allows size old image ⊎ ((plate_of size image ≡ Err opening.NotARepository) ⊎ (IsKeptOn size image × IsTruthfulOn size image))
 left_one size old image g repository (inl before) = inl before
 left_one size old image g repository (inr (inl none)) = inr (inl none)
-left_one size old image g repository (inr (inr new)) = inr (inr (formatted_kept size image g repository new))
+left_one size old image g repository (inr (inr new)) = inr (inr (formatted_kept size image g repository new, new_truthful size image g repository new))
 
 pub left_tried : (size : ℕ) (old new : Held) (g : Geometry) (repository : List ℕ) → ((i : ℕ → List ℕ) → Allows size new i → IsLeftByFormat size old g repository i) → (image : ℕ → List ℕ) → Allows size new image
-    → Allows size old image ⊎ ((plate_of size image ≡ Err opening.NotARepository) ⊎ IsKeptOn size image)
+    → Allows size old image ⊎ ((plate_of size image ≡ Err opening.NotARepository) ⊎ (IsKeptOn size image × IsTruthfulOn size image))
 left_tried size old new g repository left = λ image allowed. left_one size old image g repository (left image allowed)
 
 pub sound_kept : (size : ℕ) (h : Held) → IsKeptDevice size h → IsSoundOn size (reads h)
@@ -175,6 +176,23 @@ trial_completes s number Words did large device sink = absurd did
 trial_completes s number Source did large device sink = absurd did
 trial_completes s number TooLong did large device sink = absurd did
 trial_completes s number Denied did large device sink = absurd did
+
+-- what a stop leaves of a trial is truthful where what stood before was, by each image and by the device
+one_truthful : (size : ℕ) (old : Held) (image : ℕ → List ℕ) → IsTruthfulDevice size old → Allows size old image ⊎ ((plate_of size image ≡ Err opening.NotARepository) ⊎ (IsKeptOn size image × IsTruthfulOn size image)) → IsTruthfulOn size image
+one_truthful size old image was (inl before) = was image before
+one_truthful size old image was (inr (inl none)) = nothing_truthful size image none
+one_truthful size old image was (inr (inr new)) = new.1
+
+pub trial_truthful : (s : Sides) (number : ℕ) (status : Status) → TrialDid s number status → IsTruthfulDevice s.size s.old → (s.Unchanged → IsTruthfulDevice s.size s.new) → IsTruthfulDevice s.size s.new
+trial_truthful s number Done did was same = (did.1).rests.truthful
+trial_truthful s number Refused did was same = same (did.1).unchanged
+trial_truthful s number Sink did was same = ⊎_elim (λ small. same small.unchanged) (λ tried. tried.rests.truthful) did.1
+trial_truthful s number Device did was same = λ image allowed. one_truthful s.size s.old image was (did.0 image allowed)
+trial_truthful s number Memory did was same = λ image allowed. one_truthful s.size s.old image was (did.0 image allowed)
+trial_truthful s number Words did was same = absurd did
+trial_truthful s number Source did was same = absurd did
+trial_truthful s number TooLong did was same = absurd did
+trial_truthful s number Denied did was same = absurd did
 
 -- the words ask for one number alone
 pub same_number : (a b : ℕ) → Some (Trial a) ≡ Some (Trial b) → a ≡ b

@@ -1,6 +1,7 @@
 -- What the logs of tracked disks tell of whatever a stop leaves of a device.
-use Rattle.std.proofs.Common.{◌≡◌, ◌⊎◌, inl, inr, ⊎_elim, ℕ, List, [], sym, ap, ◌∙◌, subst}
+use Rattle.std.proofs.Common.{◌≡◌, ◌⊎◌, inl, inr, ⊎_elim, ℕ, List, [], Err, sym, ap, ◌∙◌, subst}
 use Rattle.common_laws.specs.Lists.{In}
+use Rattle.sm_base.specs.declared.faults.OpenFault.TheVariants as opening
 use Rattle.sm_base.specs.declared.sizes.Geometry.{Geometry}
 use Rattle.sm_disk.specs.Held.{Allows, Held, IsSettled, Keeps, reads}
 use Rattle.sm_disk.proofs.HeldLaws.{Allows-keeps, Allows-reads}
@@ -8,10 +9,10 @@ use Rattle.sm_log.specs.Logs.{Log}
 use Rattle.sm_log.specs.Told.{Tells}
 use Rattle.sm_machine.specs.Disks.{Disk}
 use Rattle.sm_machine.specs.Runs.{HasSector}
-use Rattle.vg_layout.specs.Opening.{GroupFound, StandsOn}
+use Rattle.vg_layout.specs.Opening.{GroupFound, StandsOn, plate_of}
 use Rattle.vg_layout.specs.Sectors.{Pointer}
 use Rattle.vg_meta.specs.Tables.{VolumeTable}
-use Rattle.vg_store.specs.Formats.{IsFormatted}
+use Rattle.vg_store.specs.Formats.{IsFormatted, IsLeftByFormat}
 use Rattle.vg_store.specs.Groups.{LeavesGroup, area_of}
 use Rattle.vg_volumes.specs.Sites.{Site}
 use Rattle.sm_ready.specs.Stores.{Leaving, content_in, content_now}
@@ -21,6 +22,10 @@ use Rattle.sm_standing.specs.Contents.{Content}
 use Rattle.sm_standing.specs.Devices.{content_of}
 use Rattle.sm_standing.specs.Logs.{logs}
 use Rattle.sm_standing.specs.Standing.{disks}
+use Rattle.lvhd_command.specs.declared.statuses.Status.{Status}
+use Rattle.lvhd_command.specs.declared.statuses.Status.TheVariants.{Done, Words, Device, Source, Sink, Refused, Memory, TooLong, Denied}
+use Rattle.lvhd_command.specs.Formatting.{Asked, FormatDid, HasFormatted, IsCutLine, Sides}
+use Rattle.lvhd_command.specs.Formatting.IsCutLine.{of_refusal, of_success}
 use Rattle.lvhd_command.specs.Devices.{IsTruthfulDevice, IsTruthfulOn, StandsAlways, plate_at}
 use Rattle.lvhd_command.specs.Running.{IsGivenBack}
 use Rattle.lvhd_command.proofs.FormattedLaws.{formatted_allowed, formatted_empty}
@@ -81,7 +86,44 @@ truthful_empty c none = record {
   told = λ a b k x y in_a in_b follows shows. absurd (subst (In shows.disk) none shows.is_there);
 }
 
-pub device_truthful : (size : ℕ) (h : Held) (g : Geometry) (repository : List ℕ) → IsFormatted size h.floor g repository → IsSettled h → IsTruthfulDevice size h
-device_truthful size h g repository formatted settled image allowed group on =
-    let s = formatted_empty size image g repository (formatted_allowed size h g repository formatted settled image allowed) in
+-- a new repository
+pub new_truthful : (size : ℕ) (image : ℕ → List ℕ) (g : Geometry) (repository : List ℕ) → IsFormatted size image g repository → IsTruthfulOn size image
+new_truthful size image g repository formatted group on =
+    let s = formatted_empty size image g repository formatted in
     truthful_empty (content_of group image) (ap disks (content_once size image s.group group s.stands on) ∙ sym s.shown)
+
+pub device_truthful : (size : ℕ) (h : Held) (g : Geometry) (repository : List ℕ) → IsFormatted size h.floor g repository → IsSettled h → IsTruthfulDevice size h
+device_truthful size h g repository formatted settled image allowed = new_truthful size image g repository (formatted_allowed size h g repository formatted settled image allowed)
+
+-- where no repository stands
+pub nothing_truthful : (size : ℕ) (image : ℕ → List ℕ) → plate_of size image ≡ Err opening.NotARepository → IsTruthfulOn size image
+nothing_truthful size image none group on = absurd (let x = sym none ∙ on.labelled in (let y = x in cc))
+
+-- what a format left of a device
+one_left : (size : ℕ) (old : Held) (g : Geometry) (repository : List ℕ) (image : ℕ → List ℕ) → IsTruthfulDevice size old → IsLeftByFormat size old g repository image → IsTruthfulOn size image
+one_left size old g repository image was (inl before) = was image before
+one_left size old g repository image was (inr (inl none)) = nothing_truthful size image none
+one_left size old g repository image was (inr (inr new)) = new_truthful size image g repository new
+
+truthful_left : (size : ℕ) (old new : Held) (g : Geometry) (repository : List ℕ) → ((image : ℕ → List ℕ) → Allows size new image → IsLeftByFormat size old g repository image) → IsTruthfulDevice size old → IsTruthfulDevice size new
+truthful_left size old new g repository left was = λ image allowed. one_left size old g repository image was (left image allowed)
+
+-- a device that was formatted, by what the format says of it
+formatted_truthful : (s : Sides) (a : Asked) (g : Geometry) → s.told → HasFormatted s a g → IsTruthfulDevice s.size s.new
+formatted_truthful s a g told f = device_truthful s.size s.new g a.repository (f.stands told) (f.settled told)
+
+cut_truthful : (s : Sides) (a : Asked) (line : List ℕ) → s.told → (s.Unchanged → IsTruthfulDevice s.size s.new) → IsCutLine s a line → IsTruthfulDevice s.size s.new
+cut_truthful s a line told same (of_refusal unchanged says) = same unchanged
+cut_truthful s a line told same (of_success g formatted says) = formatted_truthful s a g told formatted
+
+-- what a stop leaves of a format is truthful where what stood before was
+pub format_truthful : (s : Sides) (a : Asked) (status : Status) → FormatDid s a status → s.told → IsTruthfulDevice s.size s.old → (s.Unchanged → IsTruthfulDevice s.size s.new) → IsTruthfulDevice s.size s.new
+format_truthful s a Done did told was same = formatted_truthful s a did.0 told did.1
+format_truthful s a Refused did told was same = same did.0
+format_truthful s a Device did told was same = truthful_left s.size s.old s.new did.geometry a.repository (did.crash told) was
+format_truthful s a Sink did told was same = cut_truthful s a did.1.0 told same did.1.1
+format_truthful s a Memory did told was same = same did.0
+format_truthful s a Words did told was same = absurd did
+format_truthful s a Source did told was same = absurd did
+format_truthful s a TooLong did told was same = absurd did
+format_truthful s a Denied did told was same = absurd did

@@ -1,6 +1,6 @@
 -- What a stop of a device may show, when a device is kept: whatever it leaves opens again, and when it is truthful: what the logs of tracked disks
 -- tell of whatever it leaves is true (this project's format).
-use Rattle.std.specs.Prelude.{◌≡◌, ℕ, List, None, Some}
+use Rattle.std.specs.Prelude.{◌≡◌, ℕ, List, [], None, Some}
 use Rattle.sm_base.specs.declared.faults.OpenFault.{OpenFault}
 use Rattle.sm_base.specs.declared.faults.OpenFault.TheVariants.{Damaged}
 use Rattle.sm_base.specs.declared.faults.Place.{Place}
@@ -16,6 +16,7 @@ use Rattle.sm_standing.specs.Devices.{IsKeptOn, Shows, content_of}
 use Rattle.sm_standing.specs.Dropped.{opening}
 use Rattle.sm_standing.specs.Keeping.{HoldsWell}
 use Rattle.sm_standing.specs.LogChecks.{first_place}
+use Rattle.sm_standing.specs.Logs.{logs}
 use Rattle.sm_session.specs.Truth.{IsTruthful}
 
 -- each image that the device allows is kept
@@ -33,6 +34,10 @@ IsTruthfulOn size image = (g : GroupFound) → StandsOn size image g → IsTruth
 -- each image that the device allows is truthful
 abbrev pub IsTruthfulDevice : ℕ → Held → Type 0
 IsTruthfulDevice size h = (image : ℕ → List ℕ) → Allows size h image → IsTruthfulOn size image
+
+-- no repository that stands on what a stop leaves of the device has a log
+abbrev pub HasNoLogs : ℕ → Held → Type 0
+HasNoLogs size h = (image : ℕ → List ℕ) (g : GroupFound) → Allows size h image → StandsOn size image g → logs (content_of g image) ≡ []
 
 -- a stop of the device may show these disks
 pub record MayShowOn (size : ℕ) (h : Held) (ds : List Disk) : Type 0 where

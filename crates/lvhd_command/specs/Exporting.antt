@@ -18,7 +18,7 @@ use Rattle.vhd_stream.specs.declared.exporting.ExportFault.{ExportFault}
 use Rattle.vhd_stream.specs.declared.exporting.ExportFault.TheVariants as fault
 use Rattle.lvhd_command.specs.declared.statuses.Status.{Status}
 use Rattle.lvhd_command.specs.declared.statuses.Status.TheVariants.{Done, Words, Device, Source, Sink, Refused, Memory, TooLong, Denied}
-use Rattle.lvhd_command.specs.Devices.{IsKeptDevice, IsOpenedOn, IsRefusedOn, IsTruthfulDevice, MayShowOn}
+use Rattle.lvhd_command.specs.Devices.{IsKeptDevice, IsOpenedOn, IsRefusedOn, MayShowOn}
 use Rattle.lvhd_command.specs.Running.{HasLabel, HasStayed, KeepsBeside, MayHaveLabel, ReadsAsState, RunSides, ShowsNothingNew}
 use Rattle.lvhd_command.specs.Texts.{line_of, unknown_words}
 
@@ -126,14 +126,13 @@ IsAsOpened size old new TooLong = ⊥
 
 -- What an export of the disk with a UUID did. Whatever the device held: what the sink got where a line was printed or nothing, what is beside the
 -- repository, and that a device on which a check of an opening fails stayed as it is. Of a device that is kept: what was sent, that it is
--- kept, and truthful where it was, and that it is as an opening left it.
+-- kept, and that it is as an opening left it.
 pub record ExportDid (s : RunSides) (uuid : List ℕ) (now : ℕ) (status : Status) : Type 0 where
   pub said : ExportSaid s status
   pub beside : KeepsBeside s.size s.old s.new
   pub unsound : (e : OpenFault) → IsRefusedOn s.size (reads s.old) e → HasStayed s status
   pub sent : IsKeptDevice s.size s.old → ExportSent s uuid now status
   pub kept : IsKeptDevice s.size s.old → IsKeptDevice s.size s.new
-  pub truthful : IsKeptDevice s.size s.old → IsTruthfulDevice s.size s.old → IsTruthfulDevice s.size s.new
   pub opened : IsKeptDevice s.size s.old → IsAsOpened s.size s.old s.new status
 
 -- the status of an export

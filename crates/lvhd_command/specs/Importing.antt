@@ -21,7 +21,7 @@ use Rattle.vhd_import.specs.declared.faults.ImportFault.TheVariants as fault
 use Rattle.vhd_stream.specs.Files.{FileOf}
 use Rattle.lvhd_command.specs.declared.statuses.Status.{Status}
 use Rattle.lvhd_command.specs.declared.statuses.Status.TheVariants as status
-use Rattle.lvhd_command.specs.Devices.{IsKeptDevice, IsOpenedOn, IsRefusedOn, IsTruthfulDevice, MayShowOn}
+use Rattle.lvhd_command.specs.Devices.{IsKeptDevice, IsOpenedOn, IsRefusedOn, MayShowOn}
 use Rattle.lvhd_command.specs.Running.{HasLabel, HasNotOpened, HasStayed, KeepsBeside, RunSides, ShowsOnly}
 use Rattle.lvhd_command.specs.Texts.{line_of}
 
@@ -82,13 +82,11 @@ abbrev pub HasTried : RunSides → List ℕ → Status → Type 0
 HasTried s uuid status = HasImportedOn s uuid status ⊎ HasNotOpened s status
 
 -- What an import of a disk with a UUID did. Whatever the device held: what is beside the repository stays, and a device on which a check of an
--- opening fails stayed as it is. Of a device that is kept: that it is kept, and truthful where it was and the source tells what it gives, and what
--- was made of it.
+-- opening fails stayed as it is. Of a device that is kept: that it is kept, and what was made of it.
 pub record ImportDid (s : RunSides) (uuid : List ℕ) (status : Status) : Type 0 where
   pub beside : KeepsBeside s.size s.old s.new
   pub unsound : (e : OpenFault) → IsRefusedOn s.size (reads s.old) e → HasStayed s status
   pub kept : IsKeptDevice s.size s.old → IsKeptDevice s.size s.new
-  pub truthful : (bytes : List ℕ) → s.had_left ≡ Some bytes → IsKeptDevice s.size s.old → IsTruthfulDevice s.size s.old → IsTruthfulDevice s.size s.new
   pub tried : IsKeptDevice s.size s.old → HasTried s uuid status
 
 -- what the sink got of an answer, and the status: the line of a refusal, or a front of it; else nothing

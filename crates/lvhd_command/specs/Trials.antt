@@ -18,7 +18,7 @@ use Rattle.vg_layout.specs.Places.{new_extents, record_extents}
 use Rattle.vg_store.specs.Formats.{new_group}
 use Rattle.lvhd_command.specs.declared.statuses.Status.{Status}
 use Rattle.lvhd_command.specs.declared.statuses.Status.TheVariants.{Done, Words, Device, Source, Sink, Refused, Memory, TooLong, Denied}
-use Rattle.lvhd_command.specs.Devices.{IsKeptDevice}
+use Rattle.lvhd_command.specs.Devices.{IsKeptDevice, IsTruthfulDevice, IsTruthfulOn}
 use Rattle.lvhd_command.specs.Formatting.{Asked, HasSizes, Sides}
 use Rattle.lvhd_command.specs.Running.{ReadsAsState, ShowsOnly}
 use Rattle.lvhd_command.specs.Texts.{line_of, too_small_words}
@@ -45,12 +45,13 @@ summary_words number t disks images room =
 abbrev pub summary : ℕ → Tally → State → List ℕ
 summary number t σ = line_of (summary_words number t (length σ.disks) (length σ.shape.images) (free σ.shape))
 
--- a device at rest that shows the disks of a state alone, and reads as it
+-- a device at rest that shows the disks of a state alone, and reads as it; it is kept, and truthful
 pub record RestsAs (size : ℕ) (h : Held) (σ : State) : Type 0 where
   pub settled : IsSettled h
   pub only : ShowsOnly size h σ.disks
   pub reads : ReadsAsState size h σ
   pub kept : IsKeptDevice size h
+  pub truthful : IsTruthfulDevice size h
 
 -- from a state on each line of the number was stepped, the device rests as the last state, and this is the summary
 pub record HasTriedFrom (size : ℕ) (h : Held) (start : State) (number : ℕ) (text : List ℕ) : Type 0 where
@@ -66,10 +67,10 @@ pub record IsTooSmall (s : Sides) (text : List ℕ) : Type 0 where
   pub small : s.size < trial_least
   pub text_is : text ≡ line_of (too_small_words trial_least)
 
--- a stop leaves what it might have left before, or no repository, or a device that is kept
+-- a stop leaves what it might have left before, or no repository, or a device that is kept, and truthful
 abbrev pub IsLeftByTrial : Sides → Type 0
 IsLeftByTrial s = (image : ℕ → List ℕ) → Allows s.size s.new image
-    → Allows s.size s.old image ⊎ ((plate_of s.size image ≡ Err NotARepository) ⊎ IsKeptOn s.size image)
+    → Allows s.size s.old image ⊎ ((plate_of s.size image ≡ Err NotARepository) ⊎ (IsKeptOn s.size image × IsTruthfulOn s.size image))
 
 -- what a trial of a number did
 abbrev pub TrialDid : Sides → ℕ → Status → Type 0
@@ -99,8 +100,8 @@ SaysTrial text had got Denied = ⊥
 abbrev pub SessionTried : ℕ → Held → Option (List ℕ) → Option (List ℕ) → State → ℕ → Status → Type 0
 SessionTried size h had got start number Done = (text : List ℕ) × HasTriedFrom size h start number text × Adds had text got
 SessionTried size h had got start number Sink = (text : List ℕ) × HasTriedFrom size h start number text × AddsFront had text got
-SessionTried size h had got start number Device = IsKeptDevice size h × Adds had [] got
-SessionTried size h had got start number Memory = IsKeptDevice size h × Adds had [] got
+SessionTried size h had got start number Device = IsKeptDevice size h × IsTruthfulDevice size h × Adds had [] got
+SessionTried size h had got start number Memory = IsKeptDevice size h × IsTruthfulDevice size h × Adds had [] got
 SessionTried size h had got start number Refused = ⊥
 SessionTried size h had got start number Words = ⊥
 SessionTried size h had got start number Source = ⊥

@@ -7,7 +7,7 @@ ghost use Rattle.sm_ready.specs.Sessions.{IsReadyStore};
 ghost use Rattle.sm_ready.specs.Stores.{store_content};
 ghost use Rattle.vg_volumes.specs.Stored.{OnlyReads};
 ghost use Rattle.lvhd_command.specs.declared.statuses.Status.TheVariants.{Device, Sink as SinkFailed, Source, TooLong, Words};
-ghost use Rattle.lvhd_command.specs.Devices.{IsOneTable, StandsAlways};
+ghost use Rattle.lvhd_command.specs.Devices.{IsKeptDevice, IsOneTable, IsTruthfulDevice, StandsAlways};
 ghost use Rattle.lvhd_command.specs.Exporting.{ContentSaid, ContentSent, ExportDid, export_sides, export_status};
 ghost use Rattle.lvhd_command.specs.Sessions.{IsReadySession, content_read, site_of, table_of};
 
@@ -45,6 +45,7 @@ pub fn run_export<D: Disk, K: Sink>(
     ensures calm { result.0 ≢ Device → D.faults result.1 ≡ D.faults disk }
     ensures sink_calm { result.0 ≢ SinkFailed → K.faults sink.new ≡ K.faults sink.old }
     ensures did { D.told → ExportDid (export_sides D.size D.held K.content disk result.1 sink.old sink.new) wanted.now.disk now result.0 }
+    ensures truthful { D.told → IsKeptDevice (D.size disk) (D.held disk) → IsTruthfulDevice (D.size disk) (D.held disk) → IsTruthfulDevice (D.size disk) (D.held result.1) }
 {
     match open(alloc, disk, now) {
         Ok(session) => send_disk(alloc, &wanted.disk, now, session, sink),

@@ -51,6 +51,7 @@ pub fn run_import<D: Disk, S: Source, K: Sink>(
     ensures source_calm { result.0 ≢ SourceFailed → result.0 ≢ Device → S.faults source.new ≡ S.faults source.old }
     ensures sink_calm { result.0 ≢ SinkFailed → K.faults sink.new ≡ K.faults sink.old }
     ensures did { D.told → ImportDid (sides D.size D.held S.content K.content disk result.1 source.old source.new sink.old sink.new) wanted.now.disk result.0 }
+    ensures truthful { D.told → IsKeptDevice (D.size disk) (D.held disk) → IsTruthfulDevice (D.size disk) (D.held disk) → IsTruthfulDevice (D.size disk) (D.held result.1) }
     ensures unread { D.told → IsKeptDevice (D.size disk) (D.held disk) → IsRefusedAtOnce
         (sides D.size D.held S.content K.content disk result.1 source.old source.new sink.old sink.new) wanted.now.disk → source.new ≡ source.old }
 {
@@ -78,7 +79,7 @@ fn make_disk<D: Disk, S: Source, K: Sink>(
     ensures beside { D.told → Keeps (beside_at (site_of session) (D.held session.store.inner.disk)) (beside_at (site_of session) (D.held result.1)) }
     ensures stands { D.told → StandsAlways (D.size result.1) (D.held result.1) (site_of session) }
     ensures kept { D.told → IsReadySession session → KeepsSession session → IsKeptDevice (D.size result.1) (D.held result.1) }
-    ensures truthful { (bytes : List ℕ) → S.content source.old ≡ Some bytes → D.told → IsReadySession session → AreTold (site_of session) (session_leaves session) (state_of session).shape
+    ensures truthful { D.told → IsReadySession session → AreTold (site_of session) (session_leaves session) (state_of session).shape
         → IsTruthfulDevice (D.size result.1) (D.held result.1) }
     ensures told { ImportTold (state_of session).shape uuid.now (S.content source.old) (K.content sink.old) (K.content sink.new) result.0 }
     ensures left { D.told → IsReadySession session → BeginsSettled (state_of session) (MayShow (site_of session) (session_leaves session))

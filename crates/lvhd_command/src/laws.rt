@@ -3,15 +3,13 @@
 ghost use Rattle.std.specs.Prelude.{◌≡◌, ℕ, List, []};
 ghost use Rattle.lvhd_command.specs.declared.statuses.Status.{Status};
 ghost use Rattle.lvhd_command.specs.declared.statuses.Status.TheVariants.{Refused};
-ghost use Rattle.lvhd_command.specs.Devices.{IsKeptDevice, IsTruthfulDevice, MayShowOn, IsSoundOn, IsRefusedOn};
+ghost use Rattle.lvhd_command.specs.Devices.{HasNoLogs, IsKeptDevice, IsTruthfulDevice, MayShowOn, IsSoundOn, IsRefusedOn};
 ghost use Rattle.lvhd_command.specs.Running.{RunSides, RunDid};
 ghost use Rattle.sm_base.specs.declared.faults.OpenFault.{OpenFault};
 ghost use Rattle.sm_base.specs.declared.sizes.Geometry.{Geometry};
-ghost use Rattle.sm_disk.specs.Held.{Allows, Held, IsSettled, reads};
+ghost use Rattle.sm_disk.specs.Held.{Held, IsSettled, reads};
 ghost use Rattle.sm_machine.specs.Disks.{Disk};
-ghost use Rattle.sm_standing.specs.Devices.{IsKeptOn, Shows, content_of};
-ghost use Rattle.sm_standing.specs.Logs.{logs};
-ghost use Rattle.vg_layout.specs.Opening.{GroupFound, StandsOn};
+ghost use Rattle.sm_standing.specs.Devices.{IsKeptOn, Shows};
 ghost use Rattle.vg_store.specs.Formats.{IsFormatted};
 
 /// What a finished format leaves is kept, and has no disks. Where nothing is pending on the device, so is whatever a
@@ -25,9 +23,9 @@ pub fn law_formatted()
     ensures truthful { (size : ℕ) (h : Held) (g : Geometry) (repository : List ℕ) → IsFormatted size h.floor g repository → IsSettled h → IsTruthfulDevice size h }
 {}
 
-/// A device on which no disk is tracked is truthful: where each repository that stands on what a stop leaves has no log.
+/// A device on which no disk is tracked is truthful.
 pub fn law_untracked()
-    ensures { (size : ℕ) (h : Held) → ((image : ℕ → List ℕ) (g : GroupFound) → Allows size h image → StandsOn size image g → logs (content_of g image) ≡ []) → IsTruthfulDevice size h }
+    ensures { (size : ℕ) (h : Held) → HasNoLogs size h → IsTruthfulDevice size h }
 {}
 
 /// A device on which all checks of an opening pass is never refused, and one that is refused passes not all of them: an

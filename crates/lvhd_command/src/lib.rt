@@ -19,9 +19,9 @@
 //! device beside the repository (`KeepsBeside`). A repository of version 1 is taken over by version 2 as it is opened: the same group
 //! stands on whatever a stop leaves, by the one or by the other.
 //!
-//! Where what the logs of tracked disks tell was true at the entry, it is true at every return, whatever a stop leaves (`truthful`,
-//! `IsTruthfulDevice`). It is so of what a format leaves ([`law_formatted`]) and where no disk is tracked ([`law_untracked`]). Behind each line of such a run no piece is told of two
-//! snapshots that the run made which no accepted write or fill between them reached (`NamesNoMore`).
+//! Whatever the words are, where what the logs of tracked disks tell was true at the entry, it is true at every return, whatever a stop leaves
+//! (`truthful`, `IsTruthfulDevice`). It is so of what a format leaves ([`law_formatted`]) and where no disk is tracked ([`law_untracked`]). Behind
+//! each line of such a run no piece is told of two snapshots that the run made which no accepted write or fill between them reached (`NamesNoMore`).
 //!
 //! On a device on which a check of an opening fails, kept or not, one line says why, nothing is read of the script, and
 //! nothing is written, whatever the status (`HasStayed`). A kept device that was not opened for another cause shows nothing

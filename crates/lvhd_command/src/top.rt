@@ -52,6 +52,8 @@ pub fn lvhd<D: Disk, S: Source, K: Sink>(
     ensures counts { D.faults disk ≤ D.faults result.1 }
     ensures source_counts { S.faults source.old ≤ S.faults source.new }
     ensures sink_counts { K.faults sink.old ≤ K.faults sink.new }
+    // Whatever the words are: where what the logs of tracked disks tell was true of each image that a stop may leave, it is so at every return.
+    ensures truthful { D.told → IsKeptDevice (D.size disk) (D.held disk) → IsTruthfulDevice (D.size disk) (D.held disk) → IsTruthfulDevice (D.size disk) (D.held result.1) }
     ensures words { Asks words.now None → (result.0 ≡ status.Words) × (result.1 ≡ disk) × (source.new ≡ source.old) × (sink.new ≡ sink.old) }
     ensures words_only { result.0 ≡ status.Words → Asks words.now None }
     ensures device { result.0 ≡ status.Device → Rose (D.faults disk) (D.faults result.1) }
@@ -69,8 +71,6 @@ pub fn lvhd<D: Disk, S: Source, K: Sink>(
         → KeepsBesideNew (D.size disk) (asked request) (D.held disk) (D.held result.1) }
     ensures run { Asks words.now (Some Run) → D.told → IsKeptDevice (D.size disk) (D.held disk)
         → RunDid (sides D.size D.held S.content K.content disk result.1 source.old source.new sink.old sink.new) result.0 }
-    ensures truthful { Asks words.now (Some Run) → D.told → IsKeptDevice (D.size disk) (D.held disk) → IsTruthfulDevice (D.size disk) (D.held disk)
-        → IsTruthfulDevice (D.size disk) (D.held result.1) }
     ensures beside { Asks words.now (Some Run) → D.told → KeepsBeside (D.size disk) (D.held disk) (D.held result.1) }
     ensures refused { Asks words.now (Some Run) → D.told → (result.0 ≡ status.Refused) ⊎ (result.0 ≡ status.Memory)
         → HasStayed (sides D.size D.held S.content K.content disk result.1 source.old source.new sink.old sink.new) result.0 }

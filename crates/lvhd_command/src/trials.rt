@@ -5,9 +5,10 @@ ghost use Rattle.sm_disk.specs.Held.{Keeps, Rose};
 ghost use Rattle.sm_base.specs.declared.faults.CallFault.TheVariants as fault;
 ghost use Rattle.sm_script.specs.Pieces.{Writes};
 ghost use Rattle.lvhd_command.specs.declared.statuses.Status.TheVariants.{Device, Done, Memory, Sink as SinkFailed, Source, Words};
-ghost use Rattle.lvhd_command.specs.Devices.{IsKeptDevice, beside_at, plate_at};
+ghost use Rattle.lvhd_command.specs.Devices.{IsKeptDevice, IsTruthfulDevice, beside_at, plate_at};
 ghost use Rattle.lvhd_command.specs.Formatting.{KeepsBesideNew, format_sides};
-ghost use Rattle.lvhd_command.specs.Sessions.{IsReadySession, KeepsSession, site_of, state_of};
+ghost use Rattle.lvhd_command.specs.Sessions.{IsReadySession, KeepsSession, session_leaves, site_of, state_of};
+ghost use Rattle.sm_session.specs.Truth.{AllTruthful, AreTold};
 ghost use Rattle.lvhd_command.specs.Texts.{line_of};
 ghost use Rattle.lvhd_command.specs.Trials.{HasPlate, IsLabelledForTrial, RestsAs, SaysTrial, SessionTried, TrialDid, summary_words, trial_asked, trial_least};
 
@@ -93,8 +94,8 @@ fn try_session<D: Disk, K: Sink>(
     ensures sink { result.0 ≡ SinkFailed → Rose (K.faults sink.old) (K.faults sink.new) }
     ensures calm { result.0 ≢ Device → D.faults result.1 ≡ D.faults session.store.inner.disk }
     ensures sink_calm { result.0 ≢ SinkFailed → K.faults sink.new ≡ K.faults sink.old }
-    ensures tried { D.told → IsReadySession session → KeepsSession session → SessionTried (D.size session.store.inner.disk) (D.held result.1)
-        (K.content sink.old) (K.content sink.new) (state_of session) number result.0 }
+    ensures tried { D.told → IsReadySession session → KeepsSession session → AreTold (site_of session) (session_leaves session) (state_of session).shape
+        → SessionTried (D.size session.store.inner.disk) (D.held result.1) (K.content sink.old) (K.content sink.new) (state_of session) number result.0 }
     ensures label { D.told → result.0 ≡ Done → HasPlate (D.size session.store.inner.disk) (D.held result.1) (plate_at (site_of session)) }
     ensures beside { D.told → Keeps (beside_at (site_of session) (D.held session.store.inner.disk)) (beside_at (site_of session) (D.held result.1)) }
 {
@@ -141,7 +142,8 @@ fn say<D: Disk, K: Sink>(
     ensures label { D.told → HasPlate (D.size session.store.inner.disk) (D.held result.1) (plate_at (site_of session)) }
     ensures keeps { D.told → Keeps (D.held session.store.inner.disk) (D.held result.1) }
     ensures kept { D.told → KeepsSession session → IsKeptDevice (D.size session.store.inner.disk) (D.held result.1) }
-    ensures rests { D.told → IsReadySession session → KeepsSession session → result.0 ≢ Device
+    ensures truthful { D.told → AllTruthful (site_of session) (session_leaves session) → IsTruthfulDevice (D.size session.store.inner.disk) (D.held result.1) }
+    ensures rests { D.told → IsReadySession session → KeepsSession session → AllTruthful (site_of session) (session_leaves session) → result.0 ≢ Device
         → RestsAs (D.size session.store.inner.disk) (D.held result.1) (state_of session) }
 {
     let (status, disk) = close(session);

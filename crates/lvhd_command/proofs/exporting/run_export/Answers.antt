@@ -48,14 +48,27 @@ returns-in-Ok-clause-did g c = λ told.
       unsound = λ f on. absurd (sound_or_refused _ _ f (e.sound told) on);
       sent = λ k. did_of s content c.args.wanted.now.disk c.args.now c.send_disk.result.0 (holds k) (omega (arith, c.ranges.now.fits)) (c.send_disk.ensures.sent told (e.ready told (kept_well s.size s.old k)));
       kept = kept;
-      truthful = λ k truthful. truthful_opened s.size n site held s.new t m.store.inner.failed g.D.Disk.told e.size keeps always
-          (e.telling told (kept_well s.size s.old k) (truthful (reads s.old) (Allows-reads s.size s.old))).left;
       opened = λ k.
           let slots = kept_well s.size s.old k in
           opened_said s.size s.old s.new s.had_got s.got c.send_disk.result.0 c.send_disk.ensures.said
           (stands_opened s.size n site held s.new t m.store.inner.failed g.D.Disk.told e.size keeps always s.old (state_of m) (e.shown told slots) (e.opened told slots) (e.begins told slots) one
           (session_state site t (area_of site.layout held) (known m.memory) between.orderly between.tidy ((e.ready told slots).1) ((e.ready told slots).0)) (e.label told));
     }
+
+pub returns-in-Ok-clause-truthful : goal.returns-in-Ok-clause-truthful
+returns-in-Ok-clause-truthful g c = λ told kept truthful.
+    let size = g.D.Disk.size c.args.disk in
+    let old = g.D.Disk.held c.args.disk in
+    let new = g.D.Disk.held c.send_disk.result.1 in
+    let e = c.in-Ok.ensures in
+    let m = c.in-Ok.session in
+    let site : Site = site_of m in
+    let always = subst (λ k. StandsAlways k new site) (c.send_disk.ensures.size ∙ e.size) (c.send_disk.ensures.stands told) in
+    truthful_opened size (g.D.Disk.size m.store.inner.disk) site (g.D.Disk.held m.store.inner.disk) new (table_of m) m.store.inner.failed g.D.Disk.told e.size (c.send_disk.ensures.keeps told) always
+    (e.telling told (kept_well size old kept) (truthful (reads old) (Allows-reads size old))).left
+
+pub returns-in-Err-clause-truthful : goal.returns-in-Err-clause-truthful
+returns-in-Err-clause-truthful g c = λ told kept. c.in-Err.ensures.truthful_back told (kept_well (g.D.Disk.size c.args.disk) (g.D.Disk.held c.args.disk) kept)
 
 pub returns-in-Ok-clause-calm : goal.returns-in-Ok-clause-calm
 returns-in-Ok-clause-calm g c = λ other. c.send_disk.ensures.calm other ∙ c.in-Ok.ensures.calm
@@ -76,7 +89,6 @@ returns-in-Err-clause-did g c = λ told.
       unsound = λ f on. stayed (e.unsound told f on);
       sent = λ k. did_refused s c.args.wanted.now.disk c.args.now c.refuse.result (kept_sound s.size s.old k) said;
       kept = e.kept_back told;
-      truthful = λ k. e.truthful_back told (kept_well s.size s.old k);
       opened = λ k. closed_said s.size s.old s.new c.in-Err.fault _ _ _ _ c.refuse.result c.refuse.ensures (record {
         shown = e.shown_back told (kept_well s.size s.old k);
         label = e.label_back told;

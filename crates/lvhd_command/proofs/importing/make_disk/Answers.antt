@@ -199,7 +199,7 @@ returns-in-Ok-clause-left g c = λ told ready begins.
 -- ---- what logs tell
 
 pub returns-clause-truthful : goal.returns-clause-truthful
-returns-clause-truthful g c = λ bytes given told ready was_told.
+returns-clause-truthful g c = λ told ready was_told.
     let s = c.args.session in
     let n = c.import-answer.result.1.inner.disk in
     let between = s.between c.requires.whole in
@@ -211,12 +211,12 @@ returns-clause-truthful g c = λ bytes given told ready was_told.
     let r_store = rw c.into_parts-store.ensures.store at c.import-answer.ensures.refused in
     let r_memory = rw c.into_parts-store.ensures.memory at r_store in
     let logs = rw c.into_parts-store.ensures.memory at c.import-answer.ensures.logs in
-    let all = imported_truthful bytes (rw given at i) between.orderly between.usable told ready.0 ready.1 was_told (λ r e. (r_memory r e).0) logs in
+    let all = imported_truthful i between.orderly between.usable told ready.0 ready.1 was_told (λ r e. (r_memory r e).0) logs in
     subst (λ d. IsTruthfulDevice (g.D.Disk.size d) (g.D.Disk.held d)) (sym c.into_disk-disk.ensures.disk)
     (truthful_import (g.D.Disk.size n) (g.D.Disk.size n) _ (site_of s) (g.D.Disk.held n) (g.D.Disk.held n) _ _ _ i.ends refl site_is (Keeps-none (g.D.Disk.held n)) (stands told) (λ t image l. inl l) i.done.crash all)
 
 pub returns-in-Ok-clause-truthful : goal.returns-in-Ok-clause-truthful
-returns-in-Ok-clause-truthful g c = λ bytes given told ready was_told.
+returns-in-Ok-clause-truthful g c = λ told ready was_told.
     let s = c.args.session in
     let n = c.import-answer.result.1.inner.disk in
     let between = s.between c.requires.whole in
@@ -230,5 +230,5 @@ returns-in-Ok-clause-truthful g c = λ bytes given told ready was_told.
     let r_store = rw c.into_parts-store.ensures.store at c.import-answer.ensures.refused in
     let r_memory = rw c.into_parts-store.ensures.memory at r_store in
     let logs = rw c.into_parts-store.ensures.memory at c.import-answer.ensures.logs in
-    let all = imported_truthful bytes (rw given at i) between.orderly between.usable told ready.0 ready.1 was_told (λ r e. (r_memory r e).0) logs in
+    let all = imported_truthful i between.orderly between.usable told ready.0 ready.1 was_told (λ r e. (r_memory r e).0) logs in
     truthful_import (g.D.Disk.size c.settle.result.1) (g.D.Disk.size n) _ (site_of s) (g.D.Disk.held n) (g.D.Disk.held c.settle.result.1) _ _ _ i.ends (sym is_size) site_is (keeps told) (stands told) (λ t image l. inl l) i.done.crash all

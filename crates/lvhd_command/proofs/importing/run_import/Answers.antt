@@ -60,9 +60,6 @@ returns-in-Ok-clause-did g c = λ told.
       beside = beside_then s.size s.old (g.D.Disk.held m.store.inner.disk) s.new site (e.label told) (e.beside told) (c.make_disk.ensures.beside told);
       unsound = λ f on. absurd (sound_or_refused _ _ f (e.sound told) on);
       kept = λ k. subst (λ n. IsKeptDevice n s.new) is_size (c.make_disk.ensures.kept told (e.ready told (kept_well s.size s.old k)) (e.kept told (kept_well s.size s.old k)));
-      truthful = λ bytes given k truthful.
-          let slots = kept_well s.size s.old k in
-          subst (λ n. IsTruthfulDevice n s.new) is_size (c.make_disk.ensures.truthful bytes given told (e.ready told slots) (e.telling told slots (truthful (reads s.old) (Allows-reads s.size s.old))));
       tried = λ k.
           let slots = kept_well s.size s.old k in
           inl (record {
@@ -74,6 +71,18 @@ returns-in-Ok-clause-did g c = λ told.
             label = λ image allowed. (always image allowed).stands.labelled ∙ sym (e.label told);
           });
     }
+
+pub returns-in-Ok-clause-truthful : goal.returns-in-Ok-clause-truthful
+returns-in-Ok-clause-truthful g c = λ told kept truthful.
+    let size = g.D.Disk.size c.args.disk in
+    let old = g.D.Disk.held c.args.disk in
+    let e = c.in-Ok.ensures in
+    let slots = kept_well size old kept in
+    subst (λ n. IsTruthfulDevice n (g.D.Disk.held c.make_disk.result.1)) (c.make_disk.ensures.size ∙ e.size)
+    (c.make_disk.ensures.truthful told (e.ready told slots) (e.telling told slots (truthful (reads old) (Allows-reads size old))))
+
+pub returns-in-Err-clause-truthful : goal.returns-in-Err-clause-truthful
+returns-in-Err-clause-truthful g c = λ told kept. c.in-Err.ensures.truthful_back told (kept_well (g.D.Disk.size c.args.disk) (g.D.Disk.held c.args.disk) kept)
 
 pub returns-in-Ok-clause-unread : goal.returns-in-Ok-clause-unread
 returns-in-Ok-clause-unread g c = λ told kept r.
@@ -90,7 +99,6 @@ returns-in-Err-clause-did g c = λ told.
       beside = e.beside_back told;
       unsound = λ f on. has_stayed s c.in-Err.fault c.refuse.result g.D.Disk.told _ _ _ _ told refl e.refused c.refuse.ensures (e.unsound told f on);
       kept = e.kept_back told;
-      truthful = λ bytes given k. e.truthful_back told (kept_well s.size s.old k);
       tried = λ k. inr (record {
         source = refl;
         said = said;

@@ -7,11 +7,13 @@ use Rattle.lvhd_command.proofs.FormatLaws.{same_request, beside_as, did_as, cann
 use Rattle.lvhd_command.proofs.ImportLaws.{import_completes, same_import}
 use Rattle.lvhd_command.proofs.OpenLaws.{kept_sound}
 use Rattle.lvhd_command.specs.Exporting.{ExportDid, IsUnknown, export_sides}
-use Rattle.lvhd_command.specs.Formatting.{Sides, format_sides}
+use Rattle.lvhd_command.specs.Devices.{IsTruthfulDevice}
+use Rattle.lvhd_command.specs.Formatting.{Sides, asked, format_sides}
 use Rattle.lvhd_command.specs.Importing.{ImportDid, IsImportable, IsRefusedAtOnce}
 use Rattle.lvhd_command.specs.Running.{RunSides, sides}
 use Rattle.lvhd_command.specs.Trials.{TrialDid}
-use Rattle.lvhd_command.proofs.TrialLaws.{same_number, trial_completes}
+use Rattle.lvhd_command.proofs.TrialLaws.{same_number, trial_completes, trial_truthful}
+use Rattle.lvhd_command.proofs.TruthLaws.{format_truthful}
 use Rattle.lvhd_command.proofs.top.lvhd.Goals as goal
 
 pub returns-in-Some-Format-clause-format : goal.returns-in-Some-Format-clause-format
@@ -103,3 +105,26 @@ returns-in-Some-Import-clause-complete_import g c = λ wanted is told kept may d
 
 pub returns-in-Some-Run-clause-source_calm : goal.returns-in-Some-Run-clause-source_calm
 returns-in-Some-Run-clause-source_calm g c = λ _ other. c.run_script.ensures.source_calm other
+
+-- ---- what logs tell
+
+pub returns-in-Some-Format-clause-truthful : goal.returns-in-Some-Format-clause-truthful
+returns-in-Some-Format-clause-truthful g c = λ told kept truthful.
+    let size = g.D.Disk.size c.args.disk in
+    let s : Sides = format_sides g.D.Disk.size g.D.Disk.told g.D.Disk.held g.D.Disk.faults g.K.Sink.content g.K.Sink.faults c.args.disk c.run_format-status.new.disk c.args.sink.now c.run_format-status.new.sink in
+    format_truthful s (asked c.in-Some-Format.request) c.run_format-status.result c.run_format-status.ensures.did told truthful (λ same. subst (λ d. IsTruthfulDevice size (g.D.Disk.held d)) (sym same) truthful)
+
+pub returns-in-Some-Run-clause-truthful : goal.returns-in-Some-Run-clause-truthful
+returns-in-Some-Run-clause-truthful g c = λ told kept truthful. c.run_script.ensures.truthful told kept truthful
+
+pub returns-in-Some-Trial-clause-truthful : goal.returns-in-Some-Trial-clause-truthful
+returns-in-Some-Trial-clause-truthful g c = λ told kept truthful.
+    let size = g.D.Disk.size c.args.disk in
+    let s : Sides = format_sides g.D.Disk.size g.D.Disk.told g.D.Disk.held g.D.Disk.faults g.K.Sink.content g.K.Sink.faults c.args.disk c.run_trial.result.1 c.args.sink.now c.run_trial.new.sink in
+    trial_truthful s c.in-Some-Trial.number c.run_trial.result.0 (c.run_trial.ensures.did told) truthful (λ same. subst (λ d. IsTruthfulDevice size (g.D.Disk.held d)) (sym same) truthful)
+
+pub returns-in-Some-Export-clause-truthful : goal.returns-in-Some-Export-clause-truthful
+returns-in-Some-Export-clause-truthful g c = λ told kept truthful. c.run_export.ensures.truthful told kept truthful
+
+pub returns-in-Some-Import-clause-truthful : goal.returns-in-Some-Import-clause-truthful
+returns-in-Some-Import-clause-truthful g c = λ told kept truthful. c.run_import.ensures.truthful told kept truthful

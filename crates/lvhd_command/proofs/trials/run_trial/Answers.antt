@@ -9,7 +9,7 @@ use Rattle.vg_layout.specs.Opening.{plate_of}
 use Rattle.vg_store.specs.Formats.{new_group}
 use Rattle.vg_store.specs.Groups.{beside_of}
 use Rattle.vg_store.specs.Openings.{IsAnswer}
-use Rattle.lvhd_command.specs.Devices.{HoldsWellOn, IsKeptDevice, IsOpenedOn, IsRefusedOn, plate_at}
+use Rattle.lvhd_command.specs.Devices.{HoldsWellOn, IsKeptDevice, IsOpenedOn, IsRefusedOn, IsTruthfulDevice, IsTruthfulOn, plate_at}
 use Rattle.lvhd_command.specs.Sessions.{site_of, state_of}
 use Rattle.lvhd_command.specs.Trials.{HasPlate, SessionTried}
 use Rattle.lvhd_command.proofs.FormatLaws.{beside_sizes, said_calm}
@@ -17,6 +17,7 @@ use Rattle.lvhd_command.proofs.FormattedLaws.{device_kept, formatted_allowed}
 use Rattle.lvhd_command.proofs.OpenLaws.{kept_well, plate_once}
 use Rattle.lvhd_command.proofs.RunLaws.{refused_calm, refused_sink_calm}
 use Rattle.lvhd_command.proofs.TrialLaws.{least_known, left_tried, not_opened, said_not_done, said_small, same_plate, sound_kept, start_is, told_not_done, too_small, trial_did, trial_geometry}
+use Rattle.lvhd_command.proofs.TruthLaws.{device_truthful}
 use Rattle.lvhd_command.proofs.trials.run_trial.Goals as goal
 
 pub returns-in-Ok-open-clause-did : goal.returns-in-Ok-open-clause-did
@@ -29,6 +30,7 @@ returns-in-Ok-open-clause-did g c = λ told.
     let settled = c.in-Ok.ensures.settled told in
     let kept : IsKeptDevice size h = device_kept size h made _ formatted settled in
     let slots : HoldsWellOn (g.D.Disk.size c.format.new.disk) (reads h) = kept_well _ h (subst (λ n. IsKeptDevice n h) (sym c.format.ensures.size) kept) in
+    let truthful = subst (λ n. IsTruthfulOn n (reads h)) (sym c.format.ensures.size) (device_truthful size h made _ formatted settled (reads h) (Allows-reads size h)) in
     let e = c.in-Ok-open.ensures in
     let s = c.in-Ok-open.session in
     let start : State = state_of s in
@@ -36,16 +38,21 @@ returns-in-Ok-open-clause-did g c = λ told.
     (start_is size (reads h) made _ start (formatted_allowed size h made _ formatted settled (reads h) (Allows-reads size h)) (record { extent = sizes.0; block = sizes.1; entries = sizes.2 })
     (subst (λ n. Shows n (reads h) start.disks) c.format.ensures.size (e.shown told slots)) (subst (λ n. IsOpenedOn n (reads h) start.shape) c.format.ensures.size (e.opened told slots)))
     (subst (λ n. SessionTried n (g.D.Disk.held c.try_session.result.1) (g.K.Sink.content c.args.sink.now) (g.K.Sink.content c.try_session.new.sink) start c.args.number c.try_session.result.0)
-    (e.size ∙ c.format.ensures.size) (c.try_session.ensures.tried told (e.ready told slots) (e.kept told slots)))
+    (e.size ∙ c.format.ensures.size) (c.try_session.ensures.tried told (e.ready told slots) (e.kept told slots) (e.telling told slots truthful)))
 
 pub returns-in-Err-clause-did : goal.returns-in-Err-clause-did
 returns-in-Err-clause-did g c = λ told.
     let size = g.D.Disk.size c.args.disk in
     let h = g.D.Disk.held c.format.new.disk in
-    let kept : IsKeptDevice size h = device_kept size h c.in-Some.geometry _ (c.in-Ok.ensures.formatted told) (c.in-Ok.ensures.settled told) in
+    let formatted = c.in-Ok.ensures.formatted told in
+    let settled = c.in-Ok.ensures.settled told in
+    let kept : IsKeptDevice size h = device_kept size h c.in-Some.geometry _ formatted settled in
+    let slots : HoldsWellOn (g.D.Disk.size c.format.new.disk) (reads h) = kept_well _ h (subst (λ n. IsKeptDevice n h) (sym c.format.ensures.size) kept) in
+    let truthful = subst (λ n. IsTruthfulDevice n (g.D.Disk.held c.in-Err.disk)) c.format.ensures.size
+    (c.in-Err.ensures.truthful_back told slots (subst (λ n. IsTruthfulDevice n h) (sym c.format.ensures.size) (device_truthful size h c.in-Some.geometry _ formatted settled))) in
     let last : IsKeptDevice size (g.D.Disk.held c.in-Err.disk) = subst (λ n. IsKeptDevice n (g.D.Disk.held c.in-Err.disk)) c.format.ensures.size (c.in-Err.ensures.kept_back told (subst (λ n. IsKeptDevice n h) (sym c.format.ensures.size) kept)) in
     not_opened _ c.args.number (reads h) g.D.Disk.told c.in-Err.fault _ _ _ _ c.refuse.result told (sound_kept size h kept)
-    (subst (λ n. IsAnswer (λ f. g.D.Disk.told → IsRefusedOn n (reads h) f) (g.D.Disk.faults c.format.new.disk) (g.D.Disk.faults c.in-Err.disk) c.in-Err.fault) c.format.ensures.size c.in-Err.ensures.refused) c.refuse.ensures (λ image allowed. inr (inr (last image allowed)))
+    (subst (λ n. IsAnswer (λ f. g.D.Disk.told → IsRefusedOn n (reads h) f) (g.D.Disk.faults c.format.new.disk) (g.D.Disk.faults c.in-Err.disk) c.in-Err.fault) c.format.ensures.size c.in-Err.ensures.refused) c.refuse.ensures (λ image allowed. inr (inr (last image allowed, truthful image allowed)))
 
 pub returns-in-Err-TooSmall-clause-did : goal.returns-in-Err-TooSmall-clause-did
 returns-in-Err-TooSmall-clause-did g c = λ told.
