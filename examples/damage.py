@@ -4,7 +4,8 @@
 the narrow layout, whose text is short enough, as one of version 1, and puts zeros where that has nothing. Nor are `apart` and `dealt`: they deal all extents
 out, each second one or each one, to VHD images without blocks that have one extent each, so that no two of an image are neighbours. Nor is `track`: it makes the
 log of the first disk, of four pieces in which no bit is set; `logs` prints what the logs are read as, `marks` sets each bit of the first sector of bits of the first
-disk's log, and `strays` makes a log of a disk that is not there, and one that is new. `log` and the places that begin with it are of the first disk's log."""
+disk's log, `strays` makes a log of a disk that is not there, and one that is new, and `circle` has the logs of the second and the third disk begun where the
+other was taken, and sets the third's bits. `log` and the places that begin with it are of the first disk's log."""
 import struct
 import sys
 
@@ -160,6 +161,10 @@ def damage(it, place):
         it.logs()
     elif place in ("marks", "log", "log-sum", "log-number", "log-since", "log-twice"):
         change_log(it, place, it.sector_of(b"CBT-1"))
+    elif place == "circle":
+        second, third = it.sector_of(b"CBT-2"), it.sector_of(b"CBT-3")
+        it.change(second, 16, it.get(third)[8:16], sealed)
+        it.put(third + 1, b"\xff" * 512)
     elif place == "image":
         it.put(it.sector_of(b"VHD-1") + 1, bytes(512))
     else:

@@ -4,7 +4,8 @@
 # and reads of one disk; a fill over a whole disk of 8,192 blocks; a chain of 30 images that is read 200 times, and one more, which
 # is refused; that disk of 8,192 blocks sent as a VHD file through a chain of 30 images; clones until 500 images stand, and one more; 120 snapshots of one disk made and given up while it is written, and
 # what they leave collected; a disk of one block enlarged by one block 2,000 times while it is attached and written; 500 disks over 1,048,576
-# extents, of which half and then nearly all are given out so that no two of a disk are neighbours; and a full repository of version 1, taken over.
+# extents, of which half and then nearly all are given out so that no two of a disk are neighbours; a full repository of version 1, taken over;
+# 500 tracked disks; what changed over a walk of 30 logs, 1,000 times; and a tracked disk of 1,044,480 blocks of 2 MiB, whose bits take 4 MiB.
 # Prints each reply once, at most 24 characters of it, with how often it came.
 set -e
 root=$(cd "$(dirname "$0")/.." && pwd)
@@ -185,3 +186,50 @@ told "$work/old.img" 1
 (ulimit -v 65536; "$program" "$work/old.img" run </dev/null)
 told "$work/old.img" 2050
 counted "$work/old.img" "$work/few"
+# 500 disks are tracked, attached and written, and one more beginning is refused. Behind an opening `changed` of each disk and itself names no piece.
+truncate -s 32M "$work/tracked.img"
+"$program" "$work/tracked.img" format 16384 4096 64 "$repository"
+awk 'BEGIN {
+    for (i = 1; i <= 500; i++) printf "create 11111111-1111-4111-8111-%012d 4096 vhd disk\n", i
+    for (i = 1; i <= 500; i++) printf "cbt 11111111-1111-4111-8111-%012d on\n", i
+    for (i = 1; i <= 500; i++) printf "attach 11111111-1111-4111-8111-%012d rw\n", i
+    for (i = 1; i <= 500; i++) printf "fill 11111111-1111-4111-8111-%012d 7 1 5a\n", i
+    printf "cbt 11111111-1111-4111-8111-%012d on\n", 500
+}' >"$work/script"
+counted "$work/tracked.img" "$work/script"
+awk 'BEGIN { for (i = 1; i <= 500; i++) printf "changed 11111111-1111-4111-8111-%012d 11111111-1111-4111-8111-%012d\n", i, i }' >"$work/script"
+counted "$work/tracked.img" "$work/script"
+# A tracked disk of 512 pieces gets 29 snapshots, with one piece more written before each and behind the last; what changed since the first is
+# asked 1,000 times, and once more behind an opening: 29 pieces, from the third on.
+truncate -s 1200M "$work/walk.img"
+"$program" "$work/walk.img" format 16384 4096 8192 "$repository"
+awk -v disk="$disk" 'BEGIN {
+    print "create " disk " 33554432 vhd guest"
+    print "cbt " disk " on"
+    print "attach " disk " rw"
+    for (i = 1; i <= 29; i++) {
+        print "fill " disk " " i * 128 " 1 5a"
+        printf "snapshot %s 22222222-2222-4222-8222-%012d\n", disk, i
+    }
+    print "fill " disk " " 30 * 128 " 1 5a"
+    for (i = 0; i < 1000; i++) printf "changed 22222222-2222-4222-8222-%012d %s\n", 1, disk
+}' >"$work/script"
+counted "$work/walk.img" "$work/script"
+tail -n 1 "$work/script" >"$work/last"
+counted "$work/walk.img" "$work/last"
+# A tracked disk of 1,044,480 blocks of 2 MiB: its first sector is written, a snapshot is taken, and its last sector is written, which is told 10 times. Its
+# 33,423,360 bits are 4,177,920 bytes, and 5,570,560 letters.
+truncate -s 4398065647616 "$work/large.img"
+"$program" "$work/large.img" format 4194304 2097152 1044480 "$repository"
+awk -v disk="$disk" 'BEGIN {
+    print "create " disk " 2190433320960 vhd guest"
+    print "cbt " disk " on"
+    print "attach " disk " rw"
+    print "fill " disk " 0 1 5a"
+    print "snapshot " disk " 22222222-2222-4222-8222-222222222222"
+    print "fill " disk " 4278190079 1 5a"
+    for (i = 0; i < 10; i++) print "changed 22222222-2222-4222-8222-222222222222 " disk
+}' >"$work/script"
+counted "$work/large.img" "$work/script"
+tail -n 1 "$work/replies" | wc -c
+tail -c 9 "$work/replies"

@@ -1,6 +1,6 @@
 #!/bin/sh
 # A repository with the log of a tracked disk, which examples/damage.py makes by hand: what each line does to logs, as a reader of
-# its own reads them off the file, and logs that are wrong. A disk of 262,144 bytes has four pieces of 64 KiB, 128 sectors each.
+# its own reads them off the file, logs that are wrong, and logs that lead in a circle. A disk of 262,144 bytes has four pieces of 64 KiB, 128 sectors each.
 set -e
 root=$(cd "$(dirname "$0")/.." && pwd)
 . "$root/examples/shown.sh"
@@ -59,6 +59,21 @@ END
 for place in log log-sum log-number log-since log-twice; do
     wrong repo "$place"
 done
+echo '== numbers that lead in a circle, as no run makes them: from the later of two snapshots back more is told than was written between them'
+formatted "$work/repo.img" 4M
+shown "$work/repo.img" <<'END'
+create A 262144 vhd tracked
+cbt A on
+snapshot A B
+snapshot A C
+END
+damage circle
+shown "$work/repo.img" <<'END'
+snapshot B D
+snapshot B E
+changed D E
+changed E D
+END
 # A disk of 8 GiB has 131,072 pieces: its log has 33 sectors, and one of its two extents is taken away.
 truncate -s 8M "$work/long.img"
 "$program" "$work/long.img" format 16384 16384 524288 "$repository"
