@@ -19,9 +19,10 @@
 //! device beside the repository (`KeepsBeside`). A repository of version 1 is taken over by version 2 as it is opened: the same group
 //! stands on whatever a stop leaves, by the one or by the other.
 //!
-//! Whatever the words are, where what the logs of tracked disks tell was true at the entry, it is true at every return, whatever a stop leaves
-//! (`truthful`, `IsTruthfulDevice`). It is so of what a format leaves ([`law_formatted`]) and where no disk is tracked ([`law_untracked`]). Behind
-//! each line of such a run no piece is told of two snapshots that the run made which no accepted write or fill between them reached (`NamesNoMore`).
+//! Whatever the words are, on a device that is kept and on which what the logs of tracked disks tell was true at the entry, it is true at every
+//! return, whatever a stop leaves (`truthful`, `IsTruthfulDevice`). It is so of what a format leaves ([`law_formatted`]) and where no disk is
+//! tracked ([`law_untracked`]). Behind each line of a run on such a device no piece is told of two snapshots that the run made which no accepted
+//! write or fill between them reached (`NamesNoMore`).
 //!
 //! On a device on which a check of an opening fails, kept or not, one line says why, nothing is read of the script, and
 //! nothing is written, whatever the status (`HasStayed`). A kept device that was not opened for another cause shows nothing
@@ -32,7 +33,7 @@
 //!
 //! With the word `trial`: at status 0 one line was printed, whose numbers are those of the machine's replies and shape over the 20,000
 //! lines that the number draws, stepped on a new repository on this device, where nothing is pending; with another status a stop leaves what was
-//! there, no repository, or a device that is kept (`TrialDid`). Nothing beside the new repository changes, and a device that is too small
+//! there, no repository, or a device that is kept and truthful (`TrialDid`). Nothing beside the new repository changes, and a device that is too small
 //! stays as it is.
 //!
 //! With the word `export`, on a device that is kept: at status 0 the sink got the file of the disk, by `ExportOf` of what a read of

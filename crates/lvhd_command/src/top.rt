@@ -52,7 +52,7 @@ pub fn lvhd<D: Disk, S: Source, K: Sink>(
     ensures counts { D.faults disk ≤ D.faults result.1 }
     ensures source_counts { S.faults source.old ≤ S.faults source.new }
     ensures sink_counts { K.faults sink.old ≤ K.faults sink.new }
-    // Whatever the words are: where what the logs of tracked disks tell was true of each image that a stop may leave, it is so at every return.
+    // Whatever the words are, of a device that is kept: where what logs tell was true of each image that a stop might leave, it is so at every return.
     ensures truthful { D.told → IsKeptDevice (D.size disk) (D.held disk) → IsTruthfulDevice (D.size disk) (D.held disk) → IsTruthfulDevice (D.size disk) (D.held result.1) }
     ensures words { Asks words.now None → (result.0 ≡ status.Words) × (result.1 ≡ disk) × (source.new ≡ source.old) × (sink.new ≡ sink.old) }
     ensures words_only { result.0 ≡ status.Words → Asks words.now None }
