@@ -186,32 +186,38 @@ told "$work/old.img" 1
 (ulimit -v 65536; "$program" "$work/old.img" run </dev/null)
 told "$work/old.img" 2050
 counted "$work/old.img" "$work/few"
+# Lines that make so many disks of one block, and track them.
+tracked() {
+    awk -v count="$1" 'BEGIN {
+        for (i = 1; i <= count; i++) printf "create 11111111-1111-4111-8111-%012d 4096 vhd disk\n", i
+        for (i = 1; i <= count; i++) printf "cbt 11111111-1111-4111-8111-%012d on\n", i
+    }'
+}
 # 500 disks are tracked, attached and written, and one more beginning is refused. Behind an opening each is tracked still.
 truncate -s 32M "$work/tracked.img"
 "$program" "$work/tracked.img" format 16384 4096 64 "$repository"
-awk 'BEGIN {
-    for (i = 1; i <= 500; i++) printf "create 11111111-1111-4111-8111-%012d 4096 vhd disk\n", i
-    for (i = 1; i <= 500; i++) printf "cbt 11111111-1111-4111-8111-%012d on\n", i
-    for (i = 1; i <= 500; i++) printf "attach 11111111-1111-4111-8111-%012d rw\n", i
-    for (i = 1; i <= 500; i++) printf "fill 11111111-1111-4111-8111-%012d 7 1 5a\n", i
-    printf "cbt 11111111-1111-4111-8111-%012d on\n", 500
-}' >"$work/script"
+{
+    tracked 500
+    awk 'BEGIN {
+        for (i = 1; i <= 500; i++) printf "attach 11111111-1111-4111-8111-%012d rw\nfill 11111111-1111-4111-8111-%012d 7 1 5a\n", i, i
+        printf "cbt 11111111-1111-4111-8111-%012d on\n", 500
+    }'
+} >"$work/script"
 counted "$work/tracked.img" "$work/script"
 awk 'BEGIN { for (i = 1; i <= 500; i++) printf "cbt 11111111-1111-4111-8111-%012d on\n", i }' >"$work/script"
 counted "$work/tracked.img" "$work/script"
 # 498 tracked disks, and a snapshot of the first: 500 images, and the 499th log.
 truncate -s 32M "$work/twin.img"
 "$program" "$work/twin.img" format 16384 4096 64 "$repository"
-awk 'BEGIN {
-    for (i = 1; i <= 498; i++) printf "create 11111111-1111-4111-8111-%012d 4096 vhd disk\n", i
-    for (i = 1; i <= 498; i++) printf "cbt 11111111-1111-4111-8111-%012d on\n", i
-    disk = sprintf("11111111-1111-4111-8111-%012d", 1)
-    print "attach " disk " rw"
-    print "fill " disk " 7 1 5a"
-    print "snapshot " disk " 22222222-2222-4222-8222-222222222222"
-    print "fill " disk " 6 1 5a"
-    print "changed 22222222-2222-4222-8222-222222222222 " disk
-}' >"$work/script"
+{
+    tracked 498
+    first=11111111-1111-4111-8111-000000000001
+    echo "attach $first rw"
+    echo "fill $first 7 1 5a"
+    echo "snapshot $first 22222222-2222-4222-8222-222222222222"
+    echo "fill $first 6 1 5a"
+    echo "changed 22222222-2222-4222-8222-222222222222 $first"
+} >"$work/script"
 counted "$work/twin.img" "$work/script"
 # A tracked disk of 512 pieces gets 29 snapshots, with one piece more written before each and behind the last; what changed since the first is
 # asked 1,000 times, and once more behind an opening: 29 pieces, from the third on.
